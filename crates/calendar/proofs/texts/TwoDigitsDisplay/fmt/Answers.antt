@@ -1,0 +1,6 @@
+use Rattle.std.proofs.Writes.{put-is}
+use Rattle.calendar.proofs.Figures.{two-shown}
+use Rattle.calendar.proofs.texts.TwoDigitsDisplay.fmt.Needs as need
+
+pub returns : need.returns
+returns g c = λ p k. put-is (g .W·Write .took) _ _ _ _ (two-shown (c .args .self .now .0)) (c .write .ensures .shows p k)

@@ -1,0 +1,9 @@
+pub mod Calendar
+pub mod Digits
+pub mod Exact
+pub mod Written
+pub mod Time
+pub mod Due
+pub mod Clock
+pub mod Days
+pub mod Moments

@@ -1,0 +1,4 @@
+pub mod Lines
+pub mod Visits
+pub mod Answers
+pub mod Sessions
