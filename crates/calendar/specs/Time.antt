@@ -5,9 +5,10 @@
 --     IsBefore a b       a comes before b in time; is_before a b tests it
 --     InTime a b r       r says how a and b lie in time
 --     date_cmp a b       how a and b compare by year, then month, then day
+--     ByParts a b r      r says so, told part by part
 use Rattle.std.specs.Prelude.{◌≡◌, ℕ, zero, suc, pred, ◌+◌, ◌<◌, Bool, nat_lt}
 use Rattle.std.specs.declared.cmp.Ordering.{Ordering}
-use Rattle.std.specs.Ordering.{MatchOrdering, nat_cmp, on, then_cmp}
+use Rattle.std.specs.Ordering.{MatchOrdering, nat_cmp, on, ordering_then, then_cmp}
 use Rattle.calendar.specs.Calendar.{Date, month_length}
 
 abbrev pub days_through : ℕ → ℕ → ℕ
@@ -32,3 +33,13 @@ InTime a b r = MatchOrdering r (IsBefore a b) (a ≡ b) (IsBefore b a)
 
 abbrev pub date_cmp : Date → Date → Ordering
 date_cmp = then_cmp (then_cmp (on (λ d. d.year) nat_cmp) (on (λ d. d.month) nat_cmp)) (on (λ d. d.day) nat_cmp)
+
+-- how year, month and day compare, and r is the first that differs
+pub record ByParts (a b : Date) (r : Ordering) : Type 0 where
+  pub years : Ordering
+  pub months : Ordering
+  pub days : Ordering
+  pub by_year : MatchOrdering years (a.year < b.year) (a.year ≡ b.year) (b.year < a.year)
+  pub by_month : MatchOrdering months (a.month < b.month) (a.month ≡ b.month) (b.month < a.month)
+  pub by_day : MatchOrdering days (a.day < b.day) (a.day ≡ b.day) (b.day < a.day)
+  pub first : r ≡ ordering_then (ordering_then years months) days

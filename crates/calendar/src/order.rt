@@ -5,7 +5,7 @@ ghost use Rattle.std.specs.Cmp.Rules.{comparing};
 ghost use Rattle.std.specs.Ordering.{as_partial_cmp};
 ghost use Rattle.std.specs.Prelude.{◌≡◌, IsSomeAnd};
 ghost use Rattle.calendar.specs.Days.{date_of, DayOrder, day_cmp, OrderOfTime};
-ghost use Rattle.calendar.specs.Time.{date_cmp};
+ghost use Rattle.calendar.specs.Time.{date_cmp, ByParts};
 
 use crate::day::Day;
 use std::cmp::Ordering;
@@ -46,7 +46,8 @@ impl Ord for Day {
 
 // Year, month and day compared one after another.
 fn by_parts(a: &Day, b: &Day) -> Ordering
-    ensures { result ≡ date_cmp (date_of a.now) (date_of b.now) }
+    ensures value { result ≡ date_cmp (date_of a.now) (date_of b.now) }
+    ensures parts { ByParts (date_of a.now) (date_of b.now) result }
 {
     a.year
         .cmp(&b.year)

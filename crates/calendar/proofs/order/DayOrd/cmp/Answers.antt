@@ -8,7 +8,7 @@ pub returns-clause-time : goal.returns-clause-time
 returns-clause-time c =
     let a = c.args.self.now in
     let b = c.args.other.now in
-    subst (DayOrder a b) (sym c.by_parts.ensures) (order_of_time.time a b)
+    subst (DayOrder a b) (sym c.by_parts.ensures.value) (order_of_time.time a b)
 
 pub returns-clause-total : goal.returns-clause-total
 returns-clause-total c =
