@@ -6,14 +6,14 @@
 --     two_at, three_at   the number that two or three bytes write, from a place on
 --     figure n           the last digit of n, as a byte
 --     two n, three n     the last two or three digits of n, as bytes. Kept shut: whoever builds on them uses their laws
-use Rattle.std.specs.Prelude.{ℕ, ◌+◌, ◌-◌, ◌*◌, ◌/◌, ◌%◌, Bool, if◌then◌else◌, ◌&&◌, List, [], ◌∷◌, length, None, Option, ◌==◌, nat_le, slice_index}
-use Rattle.std.specs.List.{list_all}
+use Rattle.std.specs.Prelude.{ℕ, ◌+◌, ◌-◌, ◌*◌, ◌/◌, ◌%◌, Bool, true, if◌then◌else◌, ◌&&◌, List, [], ◌∷◌, length, None, Option, ◌==◌, nat_le, slice_index}
 
 abbrev pub is_digit : ℕ → Bool
 is_digit b = nat_le 48 b && nat_le b 57
 
 abbrev pub all_digits : List ℕ → Bool
-all_digits bs = list_all is_digit bs
+all_digits [] = true
+all_digits (b ∷ bs) = is_digit b && all_digits bs
 
 abbrev pub if_digits : {X : Type 0} → ℕ → List ℕ → Option X → Option X
 if_digits n bs o = if length bs == n && all_digits bs then o else None

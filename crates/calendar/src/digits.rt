@@ -21,7 +21,12 @@ fn digit(b: u8) -> u8
 fn all_digits(bytes: &[u8]) -> bool
     ensures { result ≡ all_digits bytes.now }
 {
-    bytes.iter().all(|b| is_digit(*b))
+    for b in bytes {
+        if !is_digit(*b) {
+            return false;
+        }
+    }
+    true
 }
 
 // Whether the bytes are so many digits.

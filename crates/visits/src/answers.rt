@@ -12,10 +12,11 @@ use std::fmt;
 fn trimmed(line: &[u8]) -> &[u8]
     ensures { result.now ≡ text line.now }
 {
-    match line {
-        [front @ .., b'\r'] => front,
-        _ => line,
+    let n = line.len();
+    if n > 0 && line[n - 1] == b'\r' {
+        return &line[0..n - 1];
     }
+    line
 }
 
 // The due day of the visit that the line writes, or that it writes none.

@@ -1,14 +1,13 @@
-use Rattle.std.proofs.Common.{subst, sym}
 use Rattle.std.specs.Cmp.{on_total, then_total, nat_cmp_total}
-use Rattle.calendar.specs.Days.{date_of, DayOrder}
-use Rattle.calendar.proofs.Chronology.{order_of_time}
+use Rattle.calendar.specs.Days.{date_of}
+use Rattle.calendar.proofs.Chronology.{parts_in_time, order_of_time}
 use Rattle.calendar.proofs.order.DayOrd.cmp.Goals as goal
 
 pub returns-clause-time : goal.returns-clause-time
 returns-clause-time c =
     let a = c.args.self.now in
     let b = c.args.other.now in
-    subst (DayOrder a b) (sym c.by_parts.ensures.value) (order_of_time.time a b)
+    parts_in_time (date_of a) (date_of b) a.ok b.ok c.by_parts.result c.by_parts.ensures.parts
 
 pub returns-clause-total : goal.returns-clause-total
 returns-clause-total c =
