@@ -1,5 +1,6 @@
 -- A later year, month or day has a greater number. Assumes nothing.
-use Rattle.std.proofs.Common.{◌≡◌, ℕ, zero, suc, pred, ◌+◌, ◌<◌, ◌≤◌, true, ◌⊎◌, ap, ⊎_elim, arith}
+use Rattle.std.proofs.Common.{◌≡◌, ℕ, zero, suc, pred, ◌+◌, ◌<◌, ◌≤◌, true, ap, ⊎_elim, arith}
+use Rattle.std.proofs.Math.Nat.{le-suc_iff}
 use Rattle.std.proofs.lemmas.Bool.Decides.{nat_tests}
 use Rattle.calendar.specs.Calendar.{Date, is_real, IsReal, month_length}
 use Rattle.calendar.specs.Time.{days_through, days_before, day_number, IsBefore}
@@ -14,10 +15,7 @@ in_month y m d h = grind (arith, nat_tests)
 -- what never falls from one number to the next never falls at all
 climbs : (f : ℕ → ℕ) → ((n : ℕ) → f n ≤ f (suc n)) → (m n : ℕ) → m ≤ n → f m ≤ f n
 climbs f up m zero h = let e : m ≡ 0 = omega arith in omega (arith, ap f e)
-climbs f up m (suc n) h = ⊎_elim (λ l. let k = climbs f up m n l in let u = up n in omega arith) (λ e. omega (arith, ap f e)) (last_or_less m n h)
-  where
-    last_or_less : (m n : ℕ) → m ≤ suc n → (m ≤ n) ⊎ (m ≡ suc n)
-    last_or_less m n h = grind arith
+climbs f up m (suc n) h = ⊎_elim (λ l. let k = climbs f up m n l in let u = up n in omega arith) (λ e. omega (arith, ap f e)) (le-suc_iff.0 h)
 
 through_up : (y m n : ℕ) → m ≤ n → days_through y m ≤ days_through y n
 through_up y = climbs (days_through y) (λ n. omega arith)

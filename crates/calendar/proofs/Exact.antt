@@ -15,22 +15,19 @@ use Rattle.calendar.specs.declared.day.Day.{Day}
 use Rattle.calendar.specs.declared.moment.Moment.{Moment}
 use Rattle.calendar.proofs.Figures.{two_digits, three_digits, two_back, three_back, two_first, three_first}
 
-none_some : {X : Type 0} (x : X) → None ≡ Some x → ⊥
-none_some x h = let z : ◌≡◌ {A = ℕ} 0 1 = cc in omega arith
-
 -- a value that comes only under a test
 under : {X : Type 0} (b : Bool) (o : Option X) (x : X) → cond b o None ≡ Some x → (b ≡ true) × (o ≡ Some x)
 under true o x h = (refl, h)
-under false o x h = absurd (none_some x h)
+under false o x h = cc
 
 -- what is read so that whatever is written is read back, and whatever is read was written, is read exactly
 exact : {X Y : Type 0} (of : X → Y) (write : Y → List ℕ) (bs : List ℕ) (o : Option Y) → ((x : X) → write (of x) ≡ bs → o ≡ Some (of x)) → ((y : Y) → o ≡ Some y → write y ≡ bs) → (r : Option X) → option_map of r ≡ o → Reads (λ x. write (of x)) bs r
-exact of write bs o back first None e = λ x w. none_some (of x) (e ∙ back x w)
+exact of write bs o back first None e = λ x w. let h = e ∙ back x w in cc
 exact of write bs o back first (Some x) e = first (of x) (sym e)
 
 -- ---- dates
 
-small : (y m d : ℕ) → is_real y m d ≡ true → (y < 1000) × (m < 100) × (d < 100)
+pub small : (y m d : ℕ) → is_real y m d ≡ true → (y < 1000) × (m < 100) × (d < 100)
 small y m d h = grind (arith, nat_tests)
 
 module _ (d : Date) (h : IsReal d) (rest : List ℕ) where
@@ -79,7 +76,7 @@ no_date bs h = cond-false _ _ _ (and_left _ _ (ne_eqb (length bs) 7 h))
 
 -- ---- moments
 
-timed : (h m s : ℕ) → is_on_clock h m s ≡ true → (h < 100) × (m < 100) × (s < 100)
+pub timed : (h m s : ℕ) → is_on_clock h m s ≡ true → (h < 100) × (m < 100) × (s < 100)
 timed h m s t = grind (arith, nat_tests)
 
 pub stamp_back : (s : Stamp) → IsReal s.date → is_on_clock s.hour s.minute s.second ≡ true → stamp_in (written_stamp s) ≡ Some s
@@ -93,7 +90,7 @@ stamp_back s h t =
 
 in_stamped : (b : Bool) (d : Date) (h m s : ℕ) (x : Stamp) → numbered_stamp (cond b (Some d) None) h m s ≡ Some x → ◌≡◌ {A = Stamp} (record { date = d; hour = h; minute = m; second = s }) x
 in_stamped true d h m s x e = let n = (under (is_on_clock h m s) (Some (record { date = d; hour = h; minute = m; second = s })) x e).1 in cc
-in_stamped false d h m s x e = absurd (none_some x e)
+in_stamped false d h m s x e = cc
 
 pub stamp_written : (bs : List ℕ) (s : Stamp) → stamp_in bs ≡ Some s → written_stamp s ≡ bs
 unfolding two stamp_in
@@ -108,6 +105,14 @@ unfolding stamp_in
 no_stamp bs h = cond-false _ _ _ (and_left _ _ (ne_eqb (length bs) 13 h))
 
 -- ---- days and moments
+
+pub day_length : (d : Day) → length (written_day d) ≡ 7
+unfolding two three
+day_length d = refl
+
+pub moment_length : (m : Moment) → length (written_moment m) ≡ 13
+unfolding two three
+moment_length m = refl
 
 pub day_exact : (bs : List ℕ) (r : Option Day) → option_map date_of r ≡ date_in bs → Reads written_day bs r
 day_exact bs r = exact date_of written_date bs (date_in bs) (λ d w. subst (λ l. date_in l ≡ Some (date_of d)) w (date_back (date_of d) d.ok)) (date_written bs) r

@@ -1,9 +1,10 @@
 -- Digits that are read and written again. Assumes nothing.
-use Rattle.std.proofs.Common.{◌≡◌, ℕ, ◌+◌, ◌*◌, ◌/◌, ◌%◌, ◌<◌, ◌≤◌, true, List, [], ◌∷◌, ◌++◌, length, get_or, drop, decimal, refl, ap, ◌∙◌, arith}
+use Rattle.std.proofs.Common.{◌≡◌, ℕ, ◌+◌, ◌*◌, ◌/◌, ◌%◌, ◌^◌, ◌-◌, ◌<◌, ◌≤◌, true, List, [], ◌∷◌, ◌++◌, length, get_or, drop, decimal, ⊎_elim, ap, ◌∙◌, arith}
 use Rattle.std.proofs.lemmas.List.{drop_more}
-use Rattle.std.proofs.lemmas.Fmt.{decimal_digit}
-use Rattle.std.proofs.ByRecursion.{All-get_or, Decides-by_and}
-use Rattle.std.proofs.lemmas.Bool.{and_from}
+use Rattle.std.proofs.lemmas.Fmt.{decimal_digit, decimal_step}
+use Rattle.std.specs.Fmt.{char_count, padded_integral, styled_decimal, format_spec}
+use Rattle.std.proofs.lemmas.List.Folds.{list_all_at}
+use Rattle.std.proofs.lemmas.Bool.{and_from, cases_lt}
 use Rattle.std.proofs.lemmas.Bool.Decides.{nat_tests}
 use Rattle.calendar.specs.Digits.{is_digit, all_digits, digit_of, two_at, three_at, figure, two, three}
 
@@ -29,18 +30,30 @@ two_back n h = omega (arith, figure_back (n / 10), figure_back n)
 pub three_back : (n : ℕ) → n < 1000 → digit_of (figure (n / 100)) * 100 + (digit_of (figure (n / 10)) * 10 + digit_of (figure n)) ≡ n
 three_back n h = omega (arith, figure_back (n / 100), figure_back (n / 10), figure_back n)
 
--- ---- written as text
+-- ---- written as text, with zeros in front
 
-figure_shown : (n : ℕ) → decimal (n % 10) ≡ figure n ∷ []
-figure_shown n = decimal_digit (n % 10) (omega arith)
+decimal_two : (n : ℕ) → 10 ≤ n → n < 100 → decimal n ≡ (48 + n / 10) ∷ (48 + n % 10) ∷ []
+decimal_two n low high = decimal_step n low (omega arith) ∙ ap (λ ds. ds ++ ((48 + n % 10) ∷ [])) (decimal_digit (n / 10) (omega arith))
 
-pub two_shown : (n : ℕ) → decimal (n / 10 % 10) ++ decimal (n % 10) ≡ two n
-unfolding two
-two_shown n = λ i. figure_shown (n / 10) i ++ figure_shown n i
+decimal_three : (n : ℕ) → 100 ≤ n → n < 1000 → decimal n ≡ (48 + n / 10 / 10) ∷ (48 + n / 10 % 10) ∷ (48 + n % 10) ∷ []
+decimal_three n low high = decimal_step n (omega arith) (omega arith) ∙ ap (λ ds. ds ++ ((48 + n % 10) ∷ [])) (decimal_two (n / 10) (omega arith) (omega arith))
 
-pub three_shown : (n : ℕ) → decimal (n / 100 % 10) ++ (decimal (n / 10 % 10) ++ decimal (n % 10)) ≡ three n
-unfolding three
-three_shown n = λ i. figure_shown (n / 100) i ++ (figure_shown (n / 10) i ++ figure_shown n i)
+pub two_shown : (n : ℕ) → n < 100 → styled_decimal (format_spec 32 0 4 2 (2 ^ 64 - 1)) n ≡ two n
+unfolding two padded_integral char_count
+two_shown n h = ⊎_elim
+    (λ one. let tens : n / 10 ≡ 0 = omega arith in let ones : n % 10 ≡ n = omega arith in rw (decimal_digit n one, tens, ones))
+    (λ more. let tens : n / 10 % 10 ≡ n / 10 = omega arith in rw (decimal_two n more h, tens))
+    (cases_lt n 10)
+
+pub three_shown : (n : ℕ) → n < 1000 → styled_decimal (format_spec 32 0 4 3 (2 ^ 64 - 1)) n ≡ three n
+unfolding three padded_integral char_count
+three_shown n h = ⊎_elim
+    (λ few. let hundreds : n / 100 ≡ 0 = omega arith in ⊎_elim
+    (λ one. let tens : n / 10 ≡ 0 = omega arith in let ones : n % 10 ≡ n = omega arith in rw (decimal_digit n one, hundreds, tens, ones))
+    (λ more. let tens : n / 10 % 10 ≡ n / 10 = omega arith in rw (decimal_two n more few, hundreds, tens))
+    (cases_lt n 10))
+    (λ many. let hundreds : n / 10 / 10 ≡ n / 100 % 10 = omega arith in rw (decimal_three n many h, hundreds))
+    (cases_lt n 100)
 
 -- ---- read, and then written
 
@@ -52,7 +65,7 @@ digit_small b = grind (arith, nat_tests)
 
 module _ (bs : List ℕ) (h : all_digits bs ≡ true) where
   digit_at : (i : ℕ) → i < length bs → is_digit (get_or bs i 0) ≡ true
-  digit_at i l = All-get_or (λ b. is_digit b ≡ true) bs i 0 l ((Decides-by_and is_digit (λ b. is_digit b ≡ true) all_digits (λ b. (λ e. e, λ e. e)) refl (λ _ _. refl) bs).0 h)
+  digit_at i l = grind (arith, list_all_at)
 
   pub two_first : (i : ℕ) → i + 1 < length bs → drop i bs ≡ two (two_at bs i) ++ drop (i + 2) bs
   unfolding two

@@ -1,5 +1,6 @@
 pub mod Figures
 pub mod Exact
+pub mod Parts
 pub mod Counting
 pub mod Dues
 pub mod Chronology

@@ -3,6 +3,7 @@
 --     gregorian_year y   the Gregorian year of the year y of the Republic
 --     is_leap y          whether the year has a 29 February
 --     month_length y m   how many days the month m of the year y has
+--     is_month y m       whether there is such a month, in the years 1 to 999
 --     is_real y m d      whether there is such a day, in the years 1 to 999
 --     IsReal d           the date d is a real one
 use Rattle.std.specs.Prelude.{ℕ, ◌+◌, ◌%◌, Bool, IsTrue, if◌then◌else◌, not, ◌&&◌, ◌||◌, ◌==◌, nat_le}
@@ -28,6 +29,9 @@ month_length y m = if m == 2 then (if is_leap y then 29 else 28) else (if has_th
 
 abbrev pub is_between : ℕ → ℕ → ℕ → Bool
 is_between low n high = nat_le low n && nat_le n high
+
+abbrev pub is_month : ℕ → ℕ → Bool
+is_month y m = is_between 1 y 999 && is_between 1 m 12
 
 abbrev pub is_real : ℕ → ℕ → ℕ → Bool
 is_real y m d = is_between 1 y 999 && (is_between 1 m 12 && is_between 1 d (month_length y m))

@@ -1,53 +1,27 @@
-// Numbers in ASCII digits. The functions with a `requires` serve this crate alone: their callers test the length first.
-ghost use Rattle.std.specs.Prelude.{◌≡◌, ◌+◌, ◌<◌, ◌≤◌, IsTrue, ◌&&◌, length, ◌==◌};
-ghost use Rattle.calendar.specs.Digits.{is_digit, digit_of, all_digits, two_at, three_at};
+// Numbers in ASCII digits: none, if a byte is no digit.
+ghost use Rattle.std.specs.Prelude.{◌≡◌, ◌≤◌, [], ◌∷◌, IfSome};
+ghost use Rattle.calendar.specs.Digits.{digit_in, two_in, three_in};
 
-fn is_digit(b: u8) -> bool
-    ensures { result ≡ is_digit b }
-{
-    b >= b'0' && b <= b'9'
-}
-
-fn digit(b: u8) -> u8
-    ensures value { result ≡ digit_of b }
-    ensures small { result ≤ 9 }
+fn digit(b: u8) -> Option<u8>
+    ensures value { result ≡ digit_in b }
+    ensures small { IfSome result (λ n. n ≤ 9) }
 {
     match b {
-        b'0'..=b'9' => b - b'0',
-        _ => 0,
+        b'0'..=b'9' => Some(b - b'0'),
+        _ => None,
     }
 }
 
-fn all_digits(bytes: &[u8]) -> bool
-    ensures { result ≡ all_digits bytes.now }
+pub(crate) fn two_digits(a: u8, b: u8) -> Option<u8>
+    ensures value { result ≡ two_in (a ∷ b ∷ []) }
+    ensures small { IfSome result (λ n. n ≤ 99) }
 {
-    for b in bytes {
-        if !is_digit(*b) {
-            return false;
-        }
-    }
-    true
+    Some(digit(a)? * 10 + digit(b)?)
 }
 
-// Whether the bytes are so many digits.
-pub(crate) fn are_digits(bytes: &[u8], n: usize) -> bool
-    ensures value { result ≡ (length bytes.now == n && all_digits bytes.now) }
-    ensures long { IsTrue result → length bytes.now ≡ n }
+// Not one function with `two_digits`: a year needs a u16, and the rest a u8.
+pub(crate) fn three_digits(a: u8, b: u8, c: u8) -> Option<u16>
+    ensures { result ≡ three_in (a ∷ b ∷ c ∷ []) }
 {
-    bytes.len() == n && all_digits(bytes)
-}
-
-pub(crate) fn two_at(bytes: &[u8], i: usize) -> u8
-    requires { i + 1 < length bytes.now }
-    ensures value { result ≡ two_at bytes.now i }
-    ensures small { result ≤ 99 }
-{
-    digit(bytes[i]) * 10 + digit(bytes[i + 1])
-}
-
-pub(crate) fn three_at(bytes: &[u8], i: usize) -> u16
-    requires { i + 2 < length bytes.now }
-    ensures value { result ≡ three_at bytes.now i }
-{
-    u16::from(digit(bytes[i])) * 100 + u16::from(two_at(bytes, i + 1))
+    Some(u16::from(digit(a)?) * 100 + u16::from(two_digits(b, c)?))
 }

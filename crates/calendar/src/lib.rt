@@ -1,5 +1,6 @@
 // The calendar: real days and moments, their order, and until when a visit may be corrected.
-// A module named for a type declares it, and the module of the plural has what is done with it.
+// The modules `day` and `moment` declare a type alone. What is done with it stands in `days` and `moments`, since its
+// contracts name the type.
 #![tactic(auto)]
 
 pub mod day;
@@ -8,6 +9,6 @@ mod digits;
 pub mod due;
 pub mod moment;
 pub mod moments;
-mod months;
+mod month;
 pub mod order;
 pub mod texts;

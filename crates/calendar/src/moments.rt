@@ -1,15 +1,13 @@
 // Making moments, of numbers and of digits.
 ghost use Rattle.std.specs.Prelude.{◌≡◌, Some};
 ghost use Rattle.std.specs.Option.{option_map};
-ghost use Rattle.calendar.specs.Clock.{numbered_stamp, stamp_at, stamp_in};
+ghost use Rattle.calendar.specs.Clock.{numbered_stamp, stamp_in};
 ghost use Rattle.calendar.specs.Days.{date_of};
-ghost use Rattle.calendar.specs.Digits.{if_digits};
 ghost use Rattle.calendar.specs.Exact.{Reads};
 ghost use Rattle.calendar.specs.Moments.{stamp_of, written_moment};
 
 use crate::day::Day;
-use crate::days::day_at_start;
-use crate::digits::{are_digits, two_at};
+use crate::digits::two_digits;
 use crate::moment::Moment;
 
 impl Moment {
@@ -29,22 +27,19 @@ impl Moment {
     }
 
     // The moment that thirteen digits write: that moment exactly, and none only if no moment is written so.
+    #[tactic(auto, using(crate::proofs::Parts::moments))]
     pub fn read(bytes: &[u8]) -> Option<Moment>
         ensures value { option_map stamp_of result ≡ stamp_in bytes.now }
         ensures exact { Reads written_moment bytes.now result }
     {
-        in_thirteen(bytes)
-    }
-}
-
-fn in_thirteen(bytes: &[u8]) -> Option<Moment>
-    ensures { option_map stamp_of result ≡ if_digits 13 bytes.now (stamp_at bytes.now) }
-{
-    if !are_digits(bytes, 13) {
-        return None;
-    }
-    match day_at_start(bytes) {
-        Some(day) => Moment::new(day, two_at(bytes, 7), two_at(bytes, 9), two_at(bytes, 11)),
-        None => None,
+        let &[ref day @ .., h, i, m, n, s, t] = bytes else {
+            return None;
+        };
+        Moment::new(
+            Day::read(day)?,
+            two_digits(h, i)?,
+            two_digits(m, n)?,
+            two_digits(s, t)?,
+        )
     }
 }

@@ -1,11 +1,11 @@
-// The order of days, which is that of time.
+// The order of days, which is that of time. It is not derived: a derived `cmp` has no clauses that say so.
 ghost use Rattle.std.proofs.Common.{rules};
 ghost use Rattle.std.specs.Cmp.{IsTotalOrder, partial_order_from_agreeing_total};
 ghost use Rattle.std.specs.Cmp.Rules.{comparing};
 ghost use Rattle.std.specs.Ordering.{as_partial_cmp};
 ghost use Rattle.std.specs.Prelude.{◌≡◌, IsSomeAnd};
 ghost use Rattle.calendar.specs.Days.{date_of, DayOrder, day_cmp, OrderOfTime};
-ghost use Rattle.calendar.specs.Time.{date_cmp, ByParts};
+ghost use Rattle.calendar.specs.Time.{ByParts};
 
 use crate::day::Day;
 use std::cmp::Ordering;
@@ -37,20 +37,13 @@ impl Ord for Day {
     fn cmp(&self, other: &Day) -> Ordering
         ensures value { result ≡ day_cmp self.now other.now }
         ensures time { DayOrder self.now other.now result }
+        ensures parts { ByParts (date_of self.now) (date_of other.now) result }
         ensures total { IsTotalOrder day_cmp }
         ensures law { OrderOfTime day_cmp }
     {
-        by_parts(self, other)
+        self.year
+            .cmp(&other.year)
+            .then(self.month.cmp(&other.month))
+            .then(self.day.cmp(&other.day))
     }
-}
-
-// Year, month and day compared one after another.
-fn by_parts(a: &Day, b: &Day) -> Ordering
-    ensures value { result ≡ date_cmp (date_of a.now) (date_of b.now) }
-    ensures parts { ByParts (date_of a.now) (date_of b.now) result }
-{
-    a.year
-        .cmp(&b.year)
-        .then(a.month.cmp(&b.month))
-        .then(a.day.cmp(&b.day))
 }

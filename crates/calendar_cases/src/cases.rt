@@ -164,6 +164,9 @@ pub const NO_DAYS: [[u8; 7]; 24] = [
     *b"1130 15",
 ];
 
+// Bytes that are not seven, and so no day.
+pub const NOT_SEVEN: [&[u8]; 3] = [b"", b"113061", b"11306155"];
+
 pub const MOMENTS: [[u8; 13]; 4] = [
     *b"1130615000000",
     *b"1130615235959",
@@ -179,3 +182,6 @@ pub const NO_MOMENTS: [[u8; 13]; 5] = [
     *b"1120229120000",
     *b"11306150000 0",
 ];
+
+// Bytes that are not thirteen, and so no moment.
+pub const NOT_THIRTEEN: [&[u8]; 2] = [b"113061500000", b"11306150000000"];

@@ -6,20 +6,16 @@ mod cases;
 
 #[cfg(test)]
 mod tests {
-    use crate::cases::{DUE, MOMENTS, NO_DAYS, NO_MOMENTS, RISING};
+    use crate::cases::{DUE, MOMENTS, NO_DAYS, NO_MOMENTS, NOT_SEVEN, NOT_THIRTEEN, RISING};
     use calendar::day::Day;
     use calendar::moment::Moment;
     use std::test::Fail;
-
-    fn due_of(visit: &[u8]) -> Option<Day> {
-        Some(Day::read(visit)?.due())
-    }
 
     #[test]
     fn due_days(rt: HostRuntime) {
         for (visit, due) in &DUE {
             assert!(rt; Day::read(due).is_some());
-            assert_eq!(rt; due_of(visit), Day::read(due));
+            assert_eq!(rt; Day::read(visit).map(Day::due), Day::read(due));
         }
     }
 
@@ -28,9 +24,9 @@ mod tests {
         for bytes in &NO_DAYS {
             assert!(rt; Day::read(bytes).is_none());
         }
-        assert!(rt; Day::read(b"").is_none());
-        assert!(rt; Day::read(b"113061").is_none());
-        assert!(rt; Day::read(b"11306155").is_none());
+        for bytes in NOT_SEVEN {
+            assert!(rt; Day::read(bytes).is_none());
+        }
     }
 
     #[test]
@@ -41,20 +37,17 @@ mod tests {
         for bytes in &NO_MOMENTS {
             assert!(rt; Moment::read(bytes).is_none());
         }
-        assert!(rt; Moment::read(b"113061500000").is_none());
-        assert!(rt; Moment::read(b"11306150000000").is_none());
+        for bytes in NOT_THIRTEEN {
+            assert!(rt; Moment::read(bytes).is_none());
+        }
     }
 
-    // Each day is after all that stand before it, and past due for none of those of its month.
+    // Each day is after the one before it, which is not past due for it.
     #[test]
     fn order(rt: HostRuntime) -> Result<(), Fail> {
-        for i in 1..RISING.len() {
-            let Some(earlier) = Day::read(&RISING[i - 1]) else {
-                return Err(Fail::new("no day"));
-            };
-            let Some(later) = Day::read(&RISING[i]) else {
-                return Err(Fail::new("no day"));
-            };
+        for (a, b) in RISING.iter().zip(&RISING[1..]) {
+            let earlier = Day::read(a).ok_or("no day")?;
+            let later = Day::read(b).ok_or("no day")?;
             assert!(rt; earlier < later);
             assert!(rt; !(later < earlier));
             assert!(rt; !earlier.is_past_due(later));

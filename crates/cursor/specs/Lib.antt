@@ -1,3 +1,3 @@
 pub mod Scan
 pub mod Pieces
-pub mod Runs
+pub mod Left

@@ -32,6 +32,20 @@ pub struct Cursor<'a> {
     pub ghost rest: { is_lawful_from state (drop at upload.now) ≡ true },
 }
 
+impl<'a> Cursor<'a> {
+    ghost use Rattle.std.specs.Prelude.{◌+◌};
+    ghost use Rattle.grammar.specs.Ahead.{white_len};
+    ghost use Rattle.cursor.specs.Pieces.{Meets};
+
+    // What comes next: it stands at `place`, behind the white space.
+    fn wants(&self, place: usize) -> Wanted
+        requires { place ≡ self.now.at + white_len (drop self.now.at self.now.upload.now) }
+        ensures { Meets self.now.upload.now self.now.at self.now.state place result }
+    {
+        self.state.wants(closes(self.upload, place))
+    }
+}
+
 // A cursor behind the declaration.
 pub fn begin<'a>(upload: LawfulUpload<'a>) -> Cursor<'a>
     ensures upload { result.upload.now ≡ upload.entry.bytes.now }
@@ -45,26 +59,18 @@ pub fn begin<'a>(upload: LawfulUpload<'a>) -> Cursor<'a>
     }
 }
 
-impl<'a> Cursor<'a> {
-    ghost use Rattle.std.specs.Prelude.{◌+◌, ◌<◌, IfNone, IfSome};
-    ghost use Rattle.grammar.specs.Ahead.{white_len};
-    ghost use Rattle.cursor.specs.Pieces.{Meets, Steps};
+impl<'a> Iterator for Cursor<'a> {
+    ghost use Rattle.std.specs.Iterator.{item_count};
+    ghost use Rattle.cursor.specs.Left.{left, Advances};
 
-    // What comes next: it stands at `place`, behind the white space.
-    fn wants(&self, place: usize) -> Wanted
-        requires { place ≡ self.now.at + white_len (drop self.now.at self.now.upload.now) }
-        ensures { Meets self.now.upload.now self.now.at self.now.state place result }
-    {
-        self.state.wants(closes(self.upload, place))
-    }
+    type Item = Piece<'a>;
+
+    ghost next_gives = { Advances };
+
+    ghost remaining = { item_count left };
 
     // The next piece, or none at the end.
-    pub fn next(&mut self) -> Option<Piece<'a>>
-        ensures upload { self.new.upload.now ≡ self.old.upload.now }
-        ensures falls { IfSome result (λ _. self.old.at < self.new.at) }
-        ensures ends { IfNone result (self.new ≡ self.old) }
-        ensures steps { Steps self.old.upload.now self.old.at self.old.state result self.new.at self.new.state }
-    {
+    fn next(&mut self) -> Option<Piece<'a>> {
         let place = past_white(self.upload, self.at);
         match self.wants(place) {
             Wanted::Structure(tag) => {

@@ -1,15 +1,11 @@
 // How far a value reaches.
-ghost use Rattle.std.specs.Prelude.{◌≡◌, ◌+◌, ◌<◌, length, drop};
+ghost use Rattle.std.specs.Prelude.{◌≡◌, ◌+◌, ◌≤◌, length, drop};
 ghost use Rattle.cursor.specs.Scan.{value_len};
 
 // The place of the < behind the value that begins at `from`.
 pub(crate) fn value_end(upload: &[u8], from: usize) -> usize
-    requires { from + value_len (drop from upload.now) < length upload.now }
+    requires { from ≤ length upload.now }
     ensures { result ≡ from + value_len (drop from upload.now) }
 {
-    let mut at = from;
-    while upload[at] != b'<' {
-        at += 1;
-    }
-    at
+    from + upload[from..].iter().take_while(|b| **b != b'<').count()
 }

@@ -130,18 +130,12 @@ module _ (u : List ℕ) (ts : List Thread) (stands : Stands u ts) where
   pub lawful : SomeAfter Done ts [] → Lawful u
   lawful h = subst Lawful (append-nil u) (leads Done [] h)
 
-  pub lawful_not : (SomeAfter Done ts [] → ⊥) → Lawful u → ⊥
-  lawful_not none h = none (follows Done [] (subst Lawful (sym (append-nil u)) h))
-
 pub begins : (u : List ℕ) (t : Thread) (ts : List Thread) → Stands u (t ∷ ts) → Begins u
 begins u t ts e = let p = thread_ending t in (p.0, leads u _ e Done p.0 (inl p.1))
 
 pub begins_not : (u : List ℕ) → Stands u [] → Begins u → ⊥
 begins_not u e h = follows u [] e Done h.0 h.1
 
--- the upload stands in the state s behind u
-pub leads_from : (u : List ℕ) (s : State) → Stands u (spells [] s ∷ []) → Leads u s
-leads_from u s e = subst (λ (v : List ℕ). Leads v s) (append-nil u) (leads u _ e s [] (inl here))
-
+-- the upload stands in the state s behind u, and goes on as from it
 pub going_on : (u : List ℕ) (s : State) → Stands u (spells [] s ∷ []) → (w : List ℕ) → Lawful (u ++ w) ↔ Rest s w
 going_on u s e w = ((λ h. only Done (spells [] s) w (follows u _ e Done w h)), (λ h. leads u _ e Done w (inl h)))

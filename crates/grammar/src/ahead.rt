@@ -8,16 +8,13 @@ use crate::bytes::is_white;
 pub fn past_white(upload: &[u8], from: usize) -> usize
     ensures { result ≡ from + white_len (drop from upload.now) }
 {
-    let mut at = from;
-    while at < upload.len() && is_white(upload[at]) {
-        at += 1;
-    }
-    at
+    let rest = upload.get(from..).unwrap_or_default();
+    from + rest.iter().take_while(|b| is_white(**b)).count()
 }
 
 // Of a tag at a place, whether it is a closing one.
 pub fn closes(upload: &[u8], at: usize) -> bool
     ensures { result ≡ closes (drop at upload.now) }
 {
-    at < upload.len() && at + 1 < upload.len() && upload[at + 1] == b'/'
+    matches!(upload.get(at..), Some([_, b'/', ..]))
 }

@@ -30,11 +30,11 @@ pub fn is_trail(b: u8) -> bool
 pub fn is_capital(b: u8) -> bool
     ensures { result ≡ capital b }
 {
-    matches!(b, b'A'..=b'Z')
+    b.is_ascii_uppercase()
 }
 
 pub fn is_digit(b: u8) -> bool
     ensures { result ≡ is_digit b }
 {
-    matches!(b, b'0'..=b'9')
+    b.is_ascii_digit()
 }

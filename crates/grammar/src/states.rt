@@ -9,7 +9,7 @@ pub enum Segment {
 }
 
 // Between two tags, outside a field.
-#[derive(Clone, Copy, Debug)]
+#[derive(Clone, Copy, PartialEq, Eq, Debug)]
 pub enum State {
     // behind the declaration
     Start,
@@ -58,7 +58,7 @@ pub struct FieldId {
 }
 
 // What a state asks for, once it is known whether a closing tag comes.
-#[derive(Clone, Copy, Debug)]
+#[derive(Clone, Copy, PartialEq, Eq, Debug)]
 pub enum Wanted {
     Structure(Tag),
     Field(Segment),

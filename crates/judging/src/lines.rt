@@ -1,48 +1,27 @@
-// The lines that judge prints, in capital hexadecimal digits.
-ghost use Rattle.std.specs.Prelude.{◌≡◌, ◌<◌, ◌%◌};
-ghost use Rattle.judging.specs.Lines.{hex_digit, hex_byte, records_text, refusal_text};
+// The line that judge prints, in capital hexadecimal digits.
+ghost use Rattle.std.specs.Prelude.{Some};
+ghost use Rattle.judging.specs.Lines.{line_text};
 
 use reader::faults::Refusal;
-
-fn hex_digit(n: u8) -> u8
-    requires { n < 16 }
-    ensures { result ≡ hex_digit n }
-{
-    if n < 10 { b'0' + n } else { b'A' - 10 + n }
-}
-
-fn hex_byte(n: u8) -> [u8; 2]
-    ensures { result ≡ hex_byte n }
-{
-    [hex_digit(n / 16), hex_digit(n % 16)]
-}
-
-// The last eight bits of a number.
-fn low_byte(n: usize) -> u8
-    ensures { result ≡ n % 256 }
-{
-    (n % 256) as u8
-}
+use std::fmt;
 
 // Of an upload that is taken: the number of records in two bytes.
-pub fn records_line(records: usize) -> [u8; 5]
-    ensures { result ≡ records_text records }
-{
-    let [a, b] = hex_byte(low_byte(records / 0x100));
-    let [c, d] = hex_byte(low_byte(records));
-    [a, b, c, d, b'\n']
-}
+// Of one that goes back whole: number and cause in a byte each, the place in four; 0 where there is no cause or place.
+#[derive(Clone, Copy)]
+pub struct Line(pub Result<usize, Refusal>);
 
-// Of one that goes back whole: number and cause in a byte each, the place in four.
-pub fn refusal_line(refusal: Refusal) -> [u8; 13]
-    ensures { result ≡ refusal_text refusal }
-{
-    let place = refusal.place();
-    let [a, b] = hex_byte(refusal.number());
-    let [c, d] = hex_byte(refusal.cause());
-    let [e, f] = hex_byte(low_byte(place / 0x100_0000));
-    let [g, h] = hex_byte(low_byte(place / 0x1_0000));
-    let [i, j] = hex_byte(low_byte(place / 0x100));
-    let [k, l] = hex_byte(low_byte(place));
-    [a, b, c, d, e, f, g, h, i, j, k, l, b'\n']
+impl fmt::Display for Line {
+    ghost output = { λ line. Some (line_text line.0) };
+
+    fn fmt<W: fmt::Write>(&self, f: &mut fmt::Formatter<W>) -> fmt::Result {
+        match self.0 {
+            Ok(records) => writeln!(f, "{:04X}", records % 0x1_0000),
+            Err(refusal) => {
+                let number = refusal.number();
+                let cause = refusal.cause().map_or(0, u8::from);
+                let place = refusal.place().unwrap_or(0);
+                writeln!(f, "{number:02X}{cause:02X}{:08X}", place % 0x1_0000_0000)
+            }
+        }
+    }
 }

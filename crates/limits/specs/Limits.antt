@@ -13,8 +13,8 @@ use Rattle.std.specs.Prelude.{◌≡◌, ◌≢◌, ℕ, ◌≤◌, Bool, true, 
 use Rattle.std.specs.List.{after_last}
 use Rattle.grammar.specs.Grammar.{letters}
 use Rattle.grammar.specs.Items.{Item, structure, field, value_place}
-use Rattle.grammar.specs.declared.states.Element.TheVariants.{Recs, Rec, Msh, Mb, Mb1, Mb2}
-use Rattle.grammar.specs.declared.states.Tag.TheVariants.{Open, Close}
+use Rattle.grammar.specs.declared.states.Element.TheVariants.{Mb2}
+use Rattle.grammar.specs.declared.states.Tag.TheVariants.{Open}
 use Rattle.limits.specs.Records.{is_record, records_in}
 use Rattle.limits.specs.Firsts.{Nowhere, FirstAt}
 
@@ -30,13 +30,7 @@ place_of (field i at v) = at
 
 abbrev pub is_order : Item → Bool
 is_order (structure (Open Mb2) at) = true
-is_order (structure (Open Recs) at) = false
-is_order (structure (Open Rec) at) = false
-is_order (structure (Open Msh) at) = false
-is_order (structure (Open Mb) at) = false
-is_order (structure (Open Mb1) at) = false
-is_order (structure (Close e) at) = false
-is_order (field i at v) = false
+is_order _ = false
 
 abbrev pub orders_in : List Item → ℕ
 orders_in is = count_by is_order (after_last is_record is)

@@ -17,14 +17,9 @@ pub fn survey(upload: LawfulUpload, sender: &[u8]) -> Survey
     ensures foreign { (l : Lawful upload.entry.bytes.now) →
         MatchOption result.foreign (NoneForeign sender.now (items_of l)) (FirstForeign sender.now (items_of l)) }
 {
-    let mut tally = Tally::new();
-    let mut cursor = begin(upload);
-    while let Some(piece) = cursor.next() {
-        tally.note(piece, sender);
+    let mut tally = Tally::new(sender);
+    for piece in begin(upload) {
+        tally.note(piece);
     }
-    Survey {
-        records: tally.records,
-        beyond: tally.beyond,
-        foreign: tally.foreign,
-    }
+    tally.found
 }

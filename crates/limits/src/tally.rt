@@ -30,43 +30,40 @@ pub struct Survey {
     pub foreign: Option<usize>,
 }
 
-// What has been found so far. The orders are those of the last record.
+// What has been found so far, of an upload of the sender. The orders are those of the last record.
 #[derive(Clone, Copy)]
-pub(crate) struct Tally {
-    pub(crate) records: usize,
+pub(crate) struct Tally<'a> {
+    pub(crate) found: Survey,
     pub(crate) orders: usize,
-    pub(crate) beyond: Option<usize>,
-    pub(crate) foreign: Option<usize>,
+    pub(crate) sender: &'a [u8],
 }
 
-// Whether a value is written, and not the sender.
-fn differs(value: &[u8], sender: &[u8]) -> bool
-    ensures { IsTrue result ↔ (value.now ≢ []) × (value.now ≢ sender.now) }
-{
-    !value.is_empty() && value != sender
-}
-
-// Where the value of a piece stands, five bytes behind its place, if the piece names another sender.
-fn foreign_at(piece: Piece, sender: &[u8]) -> Option<usize>
-    requires { value_place (place_of (item piece)) ≤ usize.MAX }
-    ensures { SomeIff result (IsForeign sender.now (item piece.entry)) (value_place (place_of (item piece.entry))) }
-{
-    match piece {
-        Piece::Field { id, place, value } if id == M05 && differs(value, sender) => Some(place + 5),
-        _ => None,
-    }
-}
-
-impl Tally {
-    pub(crate) fn new() -> Tally
-        ensures { (sender : List ℕ) → Tallied sender [] result }
+impl<'a> Tally<'a> {
+    pub(crate) fn new(sender: &'a [u8]) -> Tally<'a>
+        ensures { Tallied sender.now [] result }
     {
         Tally {
-            records: 0,
+            found: Survey {
+                records: 0,
+                beyond: None,
+                foreign: None,
+            },
             orders: 0,
-            beyond: None,
-            foreign: None,
+            sender,
         }
+    }
+
+    // One piece more.
+    pub(crate) fn note(&mut self, piece: Piece)
+        requires records { self.old.found.records < usize.MAX }
+        requires orders { self.old.orders < usize.MAX }
+        requires place { value_place (place_of (item piece)) ≤ usize.MAX }
+        ensures { (sender : List ℕ) (is : List Item) → Tallied sender is self.old →
+            Tallied sender (is ++ item piece.entry ∷ []) self.new }
+    {
+        self.found.beyond = self.found.beyond.or(self.beyond_at(piece));
+        self.found.foreign = self.found.foreign.or(self.foreign_at(piece));
+        self.count(piece);
     }
 
     // Where a piece stands if its limit is reached already.
@@ -78,7 +75,7 @@ impl Tally {
             Piece::Structure {
                 tag: Tag::Open(Element::Rec),
                 place,
-            } if self.records >= MOST_RECORDS => Some(place),
+            } if self.found.records >= MOST_RECORDS => Some(place),
             Piece::Structure {
                 tag: Tag::Open(Element::Mb2),
                 place,
@@ -87,33 +84,43 @@ impl Tally {
         }
     }
 
-    // One piece more.
-    pub(crate) fn note(&mut self, piece: Piece, sender: &[u8])
-        requires records { self.old.records < usize.MAX }
-        requires orders { self.old.orders < usize.MAX }
-        requires place { value_place (place_of (item piece)) ≤ usize.MAX }
-        ensures { (is : List Item) → Tallied sender.now is self.old →
-            Tallied sender.now (is ++ item piece.entry ∷ []) self.new }
+    // Where the value of a piece stands, five bytes behind its place, if the piece names another sender.
+    fn foreign_at(&self, piece: Piece) -> Option<usize>
+        requires { value_place (place_of (item piece)) ≤ usize.MAX }
+        ensures { SomeIff result (IsForeign self.now.sender.now (item piece.entry)) (value_place (place_of (item piece.entry))) }
     {
-        self.beyond = self.beyond.or(self.beyond_at(piece));
-        self.foreign = self.foreign.or(foreign_at(piece, sender));
-        self.count(piece);
+        match piece {
+            Piece::Field {
+                id: M05,
+                place,
+                value,
+            } if self.is_foreign(value) => Some(place + 5),
+            _ => None,
+        }
+    }
+
+    // Whether a value is written, and not the sender.
+    fn is_foreign(&self, value: &[u8]) -> bool
+        ensures { IsTrue result ↔ (value.now ≢ []) × (value.now ≢ self.now.sender.now) }
+    {
+        !value.is_empty() && value != self.sender
     }
 
     // Counts the piece if a record or an order begins with it.
     fn count(&mut self, piece: Piece)
-        requires records { self.old.records < usize.MAX }
+        requires records { self.old.found.records < usize.MAX }
         requires orders { self.old.orders < usize.MAX }
         ensures counted { (is : List Item) → Counted is self.old → Counted (is ++ item piece.entry ∷ []) self.new }
-        ensures beyond { self.new.beyond ≡ self.old.beyond }
-        ensures foreign { self.new.foreign ≡ self.old.foreign }
+        ensures beyond { self.new.found.beyond ≡ self.old.found.beyond }
+        ensures foreign { self.new.found.foreign ≡ self.old.found.foreign }
+        ensures sender { self.new.sender ≡ self.old.sender }
     {
         match piece {
             Piece::Structure {
                 tag: Tag::Open(Element::Rec),
                 ..
             } => {
-                self.records += 1;
+                self.found.records += 1;
                 self.orders = 0;
             }
             Piece::Structure {

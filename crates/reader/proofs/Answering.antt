@@ -1,9 +1,10 @@
 -- What the reader answers is right. Assumes nothing.
-use Rattle.std.proofs.Common.{◌≡◌, ℕ, ◌<◌, ◌≤◌, true, false, eqb, ◌||◌, List, [], ◌∷◌, ◌++◌, length, get_or, take, drop, Err, refl, sym, ap, ◌∙◌, subst, append_assoc, append-nil, length-append, arith}
-use Rattle.std.proofs.lemmas.Bool.{true≢false, eq-eqb}
-use Rattle.std.proofs.lemmas.List.{drop_at, get_or-drop}
+use Rattle.std.proofs.lemmas.Grind.{common_steps}
+use Rattle.std.proofs.Common.{◌≡◌, ℕ, ◌<◌, ◌≤◌, false, eqb, ◌||◌, List, [], ◌∷◌, ◌++◌, length, get_or, take, Err, refl, sym, ap, ◌∙◌, subst, append-nil, length-append, arith}
+use Rattle.std.proofs.lemmas.Bool.{true≢false}
+use Rattle.std.proofs.lemmas.List.{take_at}
 use Rattle.std.proofs.Math.Seq.{take-length}
-use Rattle.grammar.specs.Grammar.{declaration, Leads, Lawful}
+use Rattle.grammar.specs.Grammar.{declaration, Leads}
 use Rattle.grammar.specs.Threads.{Thread, spells, run, start, ended, is_lawful}
 use Rattle.grammar.specs.declared.states.State.{State}
 use Rattle.grammar.specs.declared.states.State.TheVariants.{Start, Record, Body}
@@ -12,16 +13,21 @@ use Rattle.grammar.specs.declared.states.Tag.{Tag}
 use Rattle.grammar.specs.declared.states.Tag.TheVariants.{Open}
 use Rattle.grammar.proofs.Runs.{begins}
 use Rattle.grammar.proofs.Walks.{spells_front}
-use Rattle.grammar.proofs.Tested.{done_is, test_from_lawful}
+use Rattle.grammar.proofs.Tested.{test_from_lawful}
 use Rattle.reader.specs.Spans.{Departs}
 use Rattle.reader.specs.Places.{OtherStands}
-use Rattle.reader.specs.Moves.{may_end, StandsAt, Stops, Undeclared}
+use Rattle.reader.specs.Moves.{may_end, StandsAt, Suits, Stops, Undeclared}
+use Rattle.reader.specs.Readings.{Breaks}
+use Rattle.reader.specs.Refusals.{tag_to_refusal}
 use Rattle.reader.specs.Laws.{Declared, Missed, Ends, Law, undeclared, unlawful, no_header, no_visit, cut_short}
 use Rattle.reader.specs.declared.stations.Station.{Station}
 use Rattle.reader.specs.declared.stations.Station.TheVariants.{Between, Opened, Filled}
 use Rattle.reader.specs.declared.faults.Cause.TheVariants as cause
+use Rattle.reader.specs.declared.faults.TagFault.{TagFault}
+use Rattle.reader.specs.declared.faults.TagFault.TheVariants as tag
 use Rattle.reader.specs.declared.faults.Refusal.{Refusal}
 use Rattle.reader.specs.declared.faults.Refusal.TheVariants.{Length, Declaration, Unlawful, NoHeader, NoVisit, CutShort, Foreign, TooMany, Call}
+use Rattle.reader.proofs.Texts.{departs_not}
 use Rattle.reader.proofs.Halting.{Halts, off, reached_run, fails_halts}
 use Rattle.reader.proofs.Verdicts.{first_wrong, ends, stands_declared, fails_caused}
 use Rattle.reader.proofs.Blames.{none_missed}
@@ -31,11 +37,6 @@ use Rattle.reader.proofs.Blames.{none_missed}
 module _ (u : List ℕ) (at : ℕ) (whole : at ≡ length u) where
   all : take at u ≡ u
   all = ap (λ n. take n u) whole ∙ take-length u
-
-  pub ends_lawful : (s : Station) → may_end s ≡ true → StandsAt u at s → Lawful u
-  ends_lawful (Between s) e h = subst (Leads u) (done_is s e) (subst (λ (w : List ℕ). Leads w s) all h.reached)
-  ends_lawful (Opened g i) e h = absurd (true≢false (sym e))
-  ends_lawful (Filled g i) e h = absurd (true≢false (sym e))
 
   early : (t : Thread) → run start (take at u) ≡ t ∷ [] → ended (t ∷ []) ≡ false → Declared u → Ends u at
   unfolding is_lawful
@@ -55,8 +56,7 @@ module _ (u : List ℕ) (at : ℕ) (whole : at ≡ length u) where
 
 module _ (u : List ℕ) (at : ℕ) (l : at < length u) where
   missed : (k : ℕ) (s r : State) (t : Tag) → Leads (take at u) s → k ≡ at → s ≡ r → OtherStands u at t → Missed u r t k
-  missed k s r t h p q o =
-      record { leads = subst (λ (i : ℕ). Leads (take i u) r) (sym p) (subst (Leads (take at u)) q h); other = subst (λ (i : ℕ). OtherStands u i t) (sym p) o }
+  missed k s r t h p q o = grind (arith, common_steps)
 
   pub stops_law : (r : Refusal) (s : Station) → StandsAt u at s → Stops u at s r → Law u (Err r)
   stops_law Length s h x = absurd x
@@ -80,6 +80,11 @@ module _ (u : List ℕ) (at : ℕ) (l : at < length u) where
   stops_law (TooMany k) s h x = absurd x
   stops_law Call s h x = absurd x
 
+-- where nothing says that another tag must stand, a fault stops the reader
+pub breaks_stops : (u : List ℕ) (at : ℕ) (s : Station) → Suits u at s → (f : TagFault) → Breaks u at s f → Stops u at s (tag_to_refusal f)
+breaks_stops u at s h (tag.Wrong c k) b = (b.0, b.1, h)
+breaks_stops u at s h (tag.Ended k) b = b
+
 -- ---- where the declaration breaks off
 
 module _ (u : List ℕ) (k : ℕ) (within : k ≤ length u) (d : Departs u 0 declaration k) where
@@ -99,11 +104,9 @@ module _ (u : List ℕ) (k : ℕ) (within : k ≤ length u) (d : Departs u 0 dec
 
   not_declared : ¬ Declared u
   not_declared h =
-      let e : u ≡ d.read ++ ((d.next ∷ d.rest) ++ h.0) = h.1 ∙ ap (λ (x : List ℕ). x ++ h.0) d.text ∙ append_assoc d.read (d.next ∷ d.rest) h.0 in
-      let l = ap length e in let m = length-append d.read ((d.next ∷ d.rest) ++ h.0) in let n = d.spans.ends in
-      let behind = drop_at d.read ((d.next ∷ d.rest) ++ h.0) k (omega arith) in
-      let byte : get_or u k 0 ≡ d.next = ap (λ (i : ℕ). get_or u i 0) (omega arith) ∙ sym (get_or-drop k u 0 0) ∙ ap (λ (x : List ℕ). get_or (drop k x) 0 0) e ∙ ap (λ (x : List ℕ). get_or x 0 0) behind in
-      true≢false (sym (eq-eqb (get_or u k 0) d.next byte) ∙ d.refuses (omega arith))
+      let l = ap length h.1 in let m = length-append declaration h.0 in
+      departs_not u 0 declaration k (length declaration) d
+      (record { ends = refl; within = omega arith; is = ap (take (length declaration)) h.1 ∙ take_at declaration h.0 (length declaration) refl })
 
   pub declaration_law : Law u (Err (Declaration k))
   declaration_law = undeclared not_declared (first_wrong u k cause.Elsewhere halt)

@@ -1,6 +1,6 @@
 -- Where a token breaks off, no other tag stands where <MSH> or <MB1> must. Assumes nothing.
-use Rattle.std.proofs.Common.{◌≡◌, ◌≢◌, ℕ, ◌+◌, ◌<◌, ◌≤◌, false, List, [], ◌∷◌, length, get_or, take, refl, sym, ap, ◌∙◌, subst, append-nil, inl, inr, arith}
-use Rattle.std.proofs.lemmas.Bool.{true≢false, cases_lt}
+use Rattle.std.proofs.Common.{◌≡◌, ◌≢◌, ℕ, ◌+◌, ◌<◌, ◌≤◌, false, List, [], ◌∷◌, length, get_or, take, refl, sym, ap, ◌∙◌, subst, append-nil, arith}
+use Rattle.std.proofs.lemmas.Bool.{true≢false}
 use Rattle.grammar.specs.Grammar.{spelling, Leads}
 use Rattle.grammar.specs.Threads.{Thread, spells, opens, steps, run, start}
 use Rattle.grammar.specs.declared.states.Element.TheVariants.{Msh, Mb1}
@@ -20,7 +20,8 @@ use Rattle.reader.proofs.Halting.{Halts, Shut, opens_shut, begins_bracket, threa
 use Rattle.reader.proofs.Verdicts.{run_dies}
 use Rattle.reader.proofs.Misses.{in_tag, Astray, astray_header, astray_visit, dead_behind, in_tag_between, dead_on}
 use Rattle.reader.proofs.Reaching.{tag_some}
-use Rattle.reader.proofs.Clearing.{span_byte, fails_clear}
+use Rattle.reader.proofs.Spanning.{span_byte}
+use Rattle.reader.proofs.Clearing.{fails_clear}
 
 -- another tag than t, so one that does not go on
 pub record Strays (u : List ℕ) (j : ℕ) (s : State) (t : Tag) : Type 0 where
@@ -77,10 +78,8 @@ module _ (u : List ℕ) (at : ℕ) (s : Station) (c : Cause) (k : ℕ) (h : Stan
     -- the stray tag is not over at k
     before_end : k < j + length (spelling m.tag)
     before_end =
-        elim (cases_lt k (j + length (spelling m.tag))) [
-          | inl e ↦ e
-          | inr e ↦ absurd (nothing halt.first halt.others (sym halt.is ∙ dead_on u (j + length (spelling m.tag)) k e (dead_behind u j r m.tag m.leads m.stands m.astray)))
-        ]
+        let p : j + length (spelling m.tag) ≤ k → ⊥ = λ e. nothing halt.first halt.others (sym halt.is ∙ dead_on u (j + length (spelling m.tag)) k e (dead_behind u j r m.tag m.leads m.stands m.astray)) in
+        omega arith
 
     not_before : j < at → ⊥
     not_before e =
@@ -96,16 +95,12 @@ module _ (u : List ℕ) (at : ℕ) (s : Station) (c : Cause) (k : ℕ) (h : Stan
 
     not_behind : at < j → ⊥
     not_behind e =
-        elim (cases_lt j k) [
-          | inl p ↦ fails_clear u at j s c k h f e p bracket
-          | inr p ↦ elim (cases_lt k j) [
-            | inl q ↦ nothing (spells [] r) [] (sym here ∙ dead_on u (k + 1) j (omega arith) (run_dies u k c halt some))
-            | inr q ↦ not_at_end (omega arith)
-          ]
-        ]
+        let p : j < k → ⊥ = λ l. fails_clear u at j s c k h f e l bracket in
+        let q : k < j → ⊥ = λ l. nothing (spells [] r) [] (sym here ∙ dead_on u (k + 1) j (omega arith) (run_dies u k c halt some)) in
+        not_at_end (omega arith)
 
     at_place : j ≡ at
-    at_place = elim (cases_lt j at) [ inl e ↦ absurd (not_before e) | inr e ↦ elim (cases_lt at j) [ inl q ↦ absurd (not_behind q) | inr q ↦ omega arith ] ]
+    at_place = let p : j < at → ⊥ = not_before in let q : at < j → ⊥ = not_behind in omega arith
 
     station_is : s ≡ Between r
     station_is = between_is s r (sym (reached_run (take at u) s h.reached) ∙ subst (λ (i : ℕ). run start (take i u) ≡ spells [] r ∷ []) at_place here)

@@ -1,5 +1,5 @@
 -- One character of a value, and many. Assumes nothing.
-use Rattle.std.proofs.Common.{◌≡◌, ℕ, ◌+◌, ◌<◌, ◌≤◌, ◌≢◌, true, false, List, [], ◌∷◌, ◌++◌, length, get_or, sym, subst, append_assoc, arith}
+use Rattle.std.proofs.Common.{◌≡◌, ℕ, ◌+◌, ◌<◌, ◌≤◌, ◌≢◌, true, false, List, [], ◌∷◌, ◌++◌, length, get_or, sym, ap, ◌∙◌, subst, append_assoc, arith}
 use Rattle.std.proofs.lemmas.Bool.Decides.{nat_tests}
 use Rattle.grammar.specs.Bytes.{plain, lead, trail}
 use Rattle.grammar.specs.Grammar.{Value, empty, one, pair}
@@ -14,27 +14,28 @@ value-append empty q = q
 value-append (one h p) q = one h (value-append p q)
 value-append (pair h k p) q = pair h k (value-append p q)
 
-module _ (u : List ℕ) (at : ℕ) where
-  pub plain_is : at < length u → true ≡ plain (get_or u at 0) → IsCharacter u at (at + 1)
-  plain_is l h = record { bytes = get_or u at 0 ∷ []; value = one (sym h) empty; some = omega arith; spans = spans_one u at l }
+pub breaks_end : (u : List ℕ) (at : ℕ) → at ≡ length u → ValueBreaksAt u at at
+breaks_end u at e = record { bytes = []; half = []; value = empty; halved = whole; spans = spans_none u at (omega arith); refuses = λ l. absurd (omega arith) }
 
-  two : at + 1 < length u → Spans u at (get_or u at 0 ∷ get_or u (at + 1) 0 ∷ []) (at + 2)
-  two l =
-      let join = spans_join u at (at + 1) (at + 1 + 1) (get_or u at 0 ∷ []) (get_or u (at + 1) 0 ∷ []) (spans_one u at (omega arith)) (spans_one u (at + 1) l) in
-      let e : at + 1 + 1 ≡ at + 2 = omega arith in
-      subst (Spans u at (get_or u at 0 ∷ get_or u (at + 1) 0 ∷ [])) e join
-
-  pub pair_is : at + 1 < length u → true ≡ lead (get_or u at 0) → true ≡ trail (get_or u (at + 1) 0) → IsCharacter u at (at + 2)
-  pair_is l h k = record { bytes = get_or u at 0 ∷ get_or u (at + 1) 0 ∷ []; value = pair (sym h) (sym k) empty; some = omega arith; spans = two l }
-
-  pub breaks_here : at ≤ length u → (at < length u → none_after [] (get_or u at 0) ≡ false) → ValueBreaksAt u at at
-  breaks_here l h = record { bytes = []; half = []; value = empty; halved = whole; spans = spans_none u at l; refuses = h }
-
-  pub breaks_half : at < length u → true ≡ lead (get_or u at 0) → (at + 1 < length u → trail (get_or u (at + 1) 0) ≡ false) → ValueBreaksAt u at (at + 1)
-  breaks_half l h k = record { bytes = []; half = get_or u at 0 ∷ []; value = empty; halved = half (sym h); spans = spans_one u at l; refuses = k }
-
-pub none_here : (b : ℕ) → b ≢ 0x3c → false ≡ plain b → false ≡ lead b → none_after [] b ≡ false
+none_here : (b : ℕ) → b ≢ 0x3c → false ≡ plain b → false ≡ lead b → none_after [] b ≡ false
 none_here b n p l = grind (arith, nat_tests)
+
+-- the byte at a place, and the place behind it
+module _ (u : List ℕ) (at first behind : ℕ) (l : at < length u) (byte : get_or u at 0 ≡ first) (next : behind ≡ at + 1) where
+  pub spans : Spans u at (first ∷ []) behind
+  spans = subst (λ (b : ℕ). Spans u at (b ∷ []) behind) byte (subst (Spans u at (get_or u at 0 ∷ [])) (sym next) (spans_one u at l))
+
+  pub plain_is : true ≡ plain first → IsCharacter u at behind
+  plain_is h = record { bytes = first ∷ []; value = one (sym h) empty; some = omega arith; spans = spans }
+
+  pub breaks_here : first ≢ 0x3c → false ≡ plain first → false ≡ lead first → ValueBreaksAt u at at
+  breaks_here n p q = record { bytes = []; half = []; value = empty; halved = whole; spans = spans_none u at (omega arith); refuses = λ _. ap (none_after []) byte ∙ none_here first n p q }
+
+  pub breaks_half : true ≡ lead first → (behind < length u → trail (get_or u behind 0) ≡ false) → ValueBreaksAt u at behind
+  breaks_half h k = record { bytes = []; half = first ∷ []; value = empty; halved = half (sym h); spans = spans; refuses = k }
+
+  pub pair_is : (second to : ℕ) → true ≡ lead first → Spans u behind (second ∷ []) to → true ≡ trail second → IsCharacter u at to
+  pair_is second to h p k = record { bytes = first ∷ second ∷ []; value = pair (sym h) (sym k) empty; some = let e = p.ends in omega arith; spans = spans_join u at behind to (first ∷ []) (second ∷ []) spans p }
 
 -- a value as far as it has been read
 pub record Walked (u : List ℕ) (from at : ℕ) : Type 0 where

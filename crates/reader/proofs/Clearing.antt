@@ -1,9 +1,8 @@
 -- In a tag or a value only the first byte is a <. Assumes nothing.
-use Rattle.std.proofs.Common.{◌≡◌, ◌≢◌, ℕ, zero, suc, ◌+◌, ◌-◌, ◌<◌, ◌≤◌, Bool, true, not, ◌&&◌, ◌==◌, List, [], ◌∷◌, ◌++◌, length, get_or, drop, codes, refl, sym, ap, ◌∙◌, arith}
+use Rattle.std.proofs.Common.{◌≡◌, ◌≢◌, ℕ, zero, suc, ◌-◌, ◌<◌, Bool, true, not, ◌&&◌, ◌==◌, List, [], ◌∷◌, ◌++◌, length, get_or, drop, codes, refl, sym, ap, ◌∙◌, arith}
 use Rattle.std.specs.List.{list_all}
 use Rattle.std.proofs.lemmas.Bool.{true≢false, and_parts, eq-eqb}
 use Rattle.std.proofs.lemmas.Bool.Decides.{nat_tests}
-use Rattle.std.proofs.lemmas.List.{get_or-take, get_or-drop}
 use Rattle.std.proofs.lemmas.List.Folds.{list_all-append}
 use Rattle.grammar.specs.Bytes.{plain, lead, trail, capital}
 use Rattle.calendar.specs.Digits.{is_digit}
@@ -13,14 +12,14 @@ use Rattle.grammar.specs.declared.states.Tag.{Tag}
 use Rattle.grammar.specs.declared.states.Tag.TheVariants.{Open, Close}
 use Rattle.grammar.specs.declared.states.FieldId.{FieldId}
 use Rattle.reader.specs.Spans.{Spans, Halved, half}
-use Rattle.reader.specs.Scans.{fits, Are}
+use Rattle.reader.specs.Scans.{fits, Each}
 use Rattle.reader.specs.Readings.{opening_classes, Fails, in_structure, in_opening, behind_all, in_value, at_slash, in_id, at_end}
 use Rattle.reader.specs.Moves.{StandsAt}
-use Rattle.reader.specs.declared.scans.Class.{Class}
-use Rattle.reader.specs.declared.scans.Class.TheVariants.{Byte, Capital, Digit}
+use Rattle.reader.specs.declared.classes.Class.{Class}
+use Rattle.reader.specs.declared.classes.Class.TheVariants.{Byte, Capital, Digit}
 use Rattle.reader.specs.declared.stations.Station.{Station}
 use Rattle.reader.specs.declared.faults.Cause.{Cause}
-use Rattle.reader.proofs.Spanning.{spans_at, spans_join}
+use Rattle.reader.proofs.Spanning.{spans_join, span_byte}
 
 abbrev other : ℕ → Bool
 other b = not (b == 0x3c)
@@ -99,7 +98,7 @@ fits_clear (Byte x) b h f = grind (arith, nat_tests)
 fits_clear Capital b h f = capital_clear b f
 fits_clear Digit b h f = digit_clear b f
 
-are_clear : (cs : List Class) (v : List ℕ) → Are cs v → list_all class_other cs ≡ true → clear v ≡ true
+are_clear : (cs : List Class) (v : List ℕ) → Each fits cs v → list_all class_other cs ≡ true → clear v ≡ true
 are_clear [] [] a h = refl
 are_clear [] (b ∷ v) a h = absurd a
 are_clear (c ∷ cs) [] a h = absurd a
@@ -107,19 +106,12 @@ are_clear (c ∷ cs) (b ∷ v) a h =
     let p = and_parts (class_other c) (list_all class_other cs) h in
     λ i. fits_clear c b p.0 a.0 i && are_clear cs v a.1 p.1 i
 
-opening_clear : (cs : List Class) (v : List ℕ) (n : Class) (r : List Class) → Are cs v → opening_classes ≡ cs ++ (n ∷ r) → clear (drop 1 v) ≡ true
+opening_clear : (cs : List Class) (v : List ℕ) (n : Class) (r : List Class) → Each fits cs v → opening_classes ≡ cs ++ (n ∷ r) → clear (drop 1 v) ≡ true
 opening_clear [] [] n r a e = refl
 opening_clear [] (b ∷ v) n r a e = absurd a
 opening_clear (c ∷ cs) [] n r a e = absurd a
 opening_clear (c ∷ cs) (b ∷ v) n r a e =
     are_clear cs v a.1 (and_parts (list_all class_other cs) (list_all class_other (n ∷ r)) (sym (list_all-append class_other cs (n ∷ r)) ∙ sym (ap (λ (x : List Class). list_all class_other (drop 1 x)) e))).0
-
--- the byte at a place is that of the text there
-pub span_byte : (u : List ℕ) (at k m : ℕ) (v : List ℕ) → at ≤ m → m < k → Spans u at v k → get_or u m 0 ≡ get_or v (m - at) 0
-span_byte u at k m v l n p =
-    let e : at + (m - at) ≡ m = omega arith in
-    ap (λ (i : ℕ). get_or u i 0) (sym e) ∙ sym (get_or-drop at u (m - at) 0) ∙ sym (get_or-take (k - at) (drop at u) (m - at) 0 (omega arith))
-    ∙ ap (λ (w : List ℕ). get_or w (m - at) 0) (spans_at u at k v p)
 
 tail_clear : (u : List ℕ) (at k m : ℕ) (v : List ℕ) → at < m → m < k → Spans u at v k → clear (drop 1 v) ≡ true → get_or u m 0 ≢ 0x3c
 tail_clear u at k m [] l n p h = λ e. let z = p.ends in omega arith
@@ -130,7 +122,7 @@ tail_clear u at k m (b ∷ v) l n p h = λ e.
 
 pub fails_clear : (u : List ℕ) (at m : ℕ) (s : Station) (c : Cause) (k : ℕ) → StandsAt u at s → Fails u at s c k → at < m → m < k → get_or u m 0 ≢ 0x3c
 fails_clear u at m _ _ k h (in_structure {s} {t} w d) l n = tail_clear u at k m d.read l n d.spans (prefix_clear (spelling t) d.read d.next d.rest d.text (spelling_clear t))
-fails_clear u at m _ _ k h (in_opening w d) l n = tail_clear u at k m d.stand.bytes l n d.stand.spans (opening_clear d.before d.stand.bytes d.next d.rest d.stand.are d.classes)
+fails_clear u at m _ _ k h (in_opening w d) l n = tail_clear u at k m d.stand.bytes l n d.stand.spans (opening_clear d.before d.stand.bytes d.next d.rest d.stand.each d.expected)
 fails_clear u at m _ _ k h (behind_all w) l n = absurd (omega arith)
 fails_clear u at m _ _ k h (in_value {g} {i} b) l n =
     tail_clear u at k m (b.bytes ++ b.half) l n b.spans (rest_clear (b.bytes ++ b.half) (both_clear b.bytes b.half (value_clear b.bytes b.value) (half_clear b.half b.halved)))

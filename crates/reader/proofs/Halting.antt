@@ -1,4 +1,5 @@
 -- Where a token breaks off, no lawful upload goes on. Assumes nothing.
+use Rattle.std.proofs.lemmas.Grind.{common_steps}
 use Rattle.std.proofs.Common.{◌≡◌, ℕ, ◌+◌, ◌<◌, ◌≤◌, Bool, true, false, cond, eqb, ◌||◌, ◌==◌, List, [], ◌∷◌, ◌++◌, length, get_or, take, drop, codes, refl, sym, ap, ◌∙◌, subst, append-nil, length-append, arith}
 use Rattle.std.proofs.lemmas.List.{get_or-drop}
 use Rattle.std.proofs.lemmas.Bool.{cond-false, eq-eqb, eqb-true, true≢false, or_parts}
@@ -20,11 +21,11 @@ use Rattle.grammar.proofs.Walks.{leads_run, opening_run, value_run, repeats_run,
 use Rattle.grammar.proofs.Wants.{wanted_turn, wanted_field, wanted_nothing}
 use Rattle.reader.proofs.Spanning.{spans_join, spans_none}
 use Rattle.reader.specs.Spans.{Spans, Refuses, Departs, Settles, Halved, half, none_after}
-use Rattle.reader.specs.Scans.{fits, Are, ClassesBreak, ValueBreaksAt}
+use Rattle.reader.specs.Scans.{fits, Each, ClassesBreak, ValueBreaksAt}
 use Rattle.reader.specs.Readings.{opening_classes, Fails, in_structure, in_opening, behind_all, in_value, at_slash, in_id, at_end}
 use Rattle.reader.specs.Moves.{InField, Reached, StandsAt}
-use Rattle.reader.specs.declared.scans.Class.{Class}
-use Rattle.reader.specs.declared.scans.Class.TheVariants.{Byte, Capital, Digit}
+use Rattle.reader.specs.declared.classes.Class.{Class}
+use Rattle.reader.specs.declared.classes.Class.TheVariants.{Byte, Capital, Digit}
 use Rattle.reader.specs.declared.stations.Station.{Station}
 use Rattle.reader.specs.declared.stations.Station.TheVariants.{Between, Opened, Filled}
 use Rattle.reader.specs.declared.faults.Cause.{Cause}
@@ -81,10 +82,7 @@ pub off : (b : Bool) (t : Thread) → b ≡ false → when b t ++ [] ≡ []
 off b t e = ap (λ c. when c t ++ []) e
 
 value_dies : (g : Segment) (i : FieldId) (x : ℕ) → none_after [] x ≡ false → steps x (value g i ∷ []) ≡ []
-value_dies g i x h =
-    let e = or_parts (eqb x 0x3c || plain x) (lead x) h in
-    let f = or_parts (eqb x 0x3c) (plain x) e.0 in
-    ap (λ ts. ts ++ []) (cond-false _ _ _ f.0 ∙ cond-false _ _ _ f.1 ∙ ap (λ c. when c (trails g i)) e.1)
+value_dies g i x h = grind (arith, common_steps)
 
 module _ (u : List ℕ) (at : ℕ) (g : Segment) (i : FieldId) (h : Reached (take at u) (Opened g i)) where
   value_halts : (k : ℕ) → ValueBreaksAt u at k → Halts u k cause.Value
@@ -162,25 +160,19 @@ one_off x y v m e = off (eqb x y) (spells v m) e
 two_off : (x y z : ℕ) (v w : List ℕ) (m n : State) → eqb x y ≡ false → eqb x z ≡ false → steps x (spells (y ∷ v) m ∷ spells (z ∷ w) n ∷ []) ≡ []
 two_off x y z v w m n e f = λ i. when (e i) (spells v m) ++ (when (f i) (spells w n) ++ [])
 
-not_both : (b : Bool) → b ≡ true → b ≡ false → ⊥
-not_both b h k = true≢false (sym h ∙ k)
-
 second_dies : (x : ℕ) (s : State) (c : Bool) (t : Tag) → eqb x 0x2f ≡ c → wanted s c ≡ want.Structure t → eqb x (get_or (spelling t) 1 0) ≡ false → steps x (opens s) ≡ []
 second_dies x Start c t b h e = one_off x _ _ _ (byte_off x _ t h e)
-second_dies x Records true t b h e = absurd (not_both (eqb x 0x2f) b (byte_off x _ t h e))
+second_dies x Records true t b h e = absurd (true≢false (sym b ∙ byte_off x _ t h e))
 second_dies x Records false t b h e = two_off x _ _ _ _ _ _ (byte_off x _ t h e) b
 second_dies x Record c t b h e = one_off x _ _ _ (byte_off x _ t h e)
-second_dies x (Within g) true t b h e = absurd (not_both (eqb x 0x2f) b (byte_off x _ t h e))
+second_dies x (Within g) true t b h e = absurd (true≢false (sym b ∙ byte_off x _ t h e))
 second_dies x (Within g) false t b h e = absurd (cc)
 second_dies x Headed c t b h e = one_off x _ _ _ (byte_off x _ t h e)
 second_dies x Body c t b h e = one_off x _ _ _ (byte_off x _ t h e)
-second_dies x Orders true t b h e = absurd (not_both (eqb x 0x2f) b (byte_off x _ t h e))
+second_dies x Orders true t b h e = absurd (true≢false (sym b ∙ byte_off x _ t h e))
 second_dies x Orders false t b h e = two_off x _ _ _ _ _ _ (byte_off x _ t h e) b
 second_dies x Bodied c t b h e = one_off x _ _ _ (byte_off x _ t h e)
 second_dies x Done c t b h e = absurd (cc)
-
-wanted_not : {t : Tag} → want.Nothing ≡ want.Structure t → ⊥
-wanted_not h = cc
 
 -- threads in a tag, with a byte to come
 pub record Shut (ts : List Thread) : Type 0 where
@@ -232,7 +224,7 @@ module _ (u : List ℕ) (at : ℕ) (s : State) (h : Reached (take at u) (Between
   structure_halts t k w d = go d.read d.text d.spans
     where
       not_done : s ≡ Done → ⊥
-      not_done e = let z = ap (λ x. wanted x (closes (drop at u))) e in let y : want.Nothing ≡ want.Structure t = cc in wanted_not y
+      not_done e = let z = ap (λ x. wanted x (closes (drop at u))) e in cc
 
       go : (v : List ℕ) → spelling t ≡ v ++ (d.next ∷ d.rest) → Spans u at v k → Halts u k cause.Elsewhere
       go [] e p = first_halts k p (λ l. subst (λ (x : ℕ). eqb (get_or u k 0) x ≡ false) (sym (ap (λ (v : List ℕ). get_or v 0 0) e) ∙ begins_bracket t) (d.refuses l))
@@ -262,9 +254,9 @@ module _ (u : List ℕ) (at : ℕ) (g : Segment) (h : Reached (take at u) (Betwe
       subst (Halts u k) e (halts u at (Between (Within g)) h (0x3c ∷ v) k t [] (subst (λ (y : ℕ). Spans u at (y ∷ v) k) (eqb-true x 0x3c f) p) r dies (λ _. o))
 
   opening_halts : Halts u k cause.Elsewhere
-  opening_halts = go d.before d.stand.bytes d.stand.are d.classes d.stand.spans
+  opening_halts = go d.before d.stand.bytes d.stand.each d.expected d.stand.spans
     where
-      go : (cs : List Class) (v : List ℕ) → Are cs v → opening_classes ≡ cs ++ (d.next ∷ d.rest) → Spans u at v k → Halts u k cause.Elsewhere
+      go : (cs : List Class) (v : List ℕ) → Each fits cs v → opening_classes ≡ cs ++ (d.next ∷ d.rest) → Spans u at v k → Halts u k cause.Elsewhere
       go [] [] a e p = first_halts u at (Within g) h ready some k p (refused (Byte 0x3c) (cc))
       go [] (x ∷ v) a e p = absurd a
       go (c ∷ cs) [] a e p = absurd a

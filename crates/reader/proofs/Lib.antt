@@ -1,3 +1,4 @@
+pub mod Exits
 pub mod Spanning
 pub mod Characters
 pub mod Whites

@@ -1,15 +1,15 @@
 -- The parts that stand between places. Assumes nothing.
-use Rattle.std.proofs.Common.{◌≡◌, ℕ, ◌+◌, ◌-◌, List, [], ◌∷◌, ◌++◌, take, drop, codes, refl, sym, ap, subst, arith}
+use Rattle.std.proofs.Common.{◌≡◌, ℕ, ◌+◌, ◌-◌, List, [], ◌∷◌, take, drop, codes, refl, sym, ap, subst, arith}
 use Rattle.std.proofs.lemmas.Bool.{eqb-true}
-use Rattle.grammar.specs.Grammar.{letters, opening, closing, name, spelling}
+use Rattle.grammar.specs.Grammar.{letters, opening, name, spelling}
 use Rattle.grammar.specs.declared.states.Element.{Element}
 use Rattle.grammar.specs.declared.states.Tag.{Tag}
 use Rattle.grammar.specs.declared.states.Tag.TheVariants as tag
 use Rattle.grammar.specs.declared.states.FieldId.{FieldId}
 use Rattle.reader.specs.Spans.{Spans}
-use Rattle.reader.specs.Scans.{Are}
+use Rattle.reader.specs.Scans.{fits, Each}
 use Rattle.reader.specs.Readings.{opens, closed, structure_part, opening_classes, ReadsOpening}
-use Rattle.reader.proofs.Spanning.{inner_is, spans_join}
+use Rattle.reader.proofs.Spanning.{inner_is}
 
 module _ (u : List ℕ) (at end : ℕ) where
   pub open_part : (e : Element) (t : Tag) → t ≡ tag.Open e → Spans u at (spelling t) end → opens (take (end - 1 - (at + 1)) (drop (at + 1) u)) at ≡ structure_part t at
@@ -26,7 +26,7 @@ module _ (u : List ℕ) (at end : ℕ) where
       let l = r.ends in
       ap (λ (v : List ℕ). closed v at) (inner_is u at end (at + 2) (end - 1) (codes "</") (name e) (codes ">") refl (omega arith) r))
 
-  pub opening_reads : (v : List ℕ) → Are opening_classes v → Spans u at v end → ReadsOpening u at (opens (take (end - 1 - (at + 1)) (drop (at + 1) u)) at) end
+  pub opening_reads : (v : List ℕ) → Each fits opening_classes v → Spans u at v end → ReadsOpening u at (opens (take (end - 1 - (at + 1)) (drop (at + 1) u)) at) end
   opening_reads [] h p = absurd h
   opening_reads (a ∷ []) h p = absurd h.1
   opening_reads (a ∷ b ∷ []) h p = absurd h.1.1
@@ -43,6 +43,3 @@ module _ (u : List ℕ) (at end : ℕ) where
         spans = spans;
       }
   opening_reads (a ∷ b ∷ c ∷ d ∷ e ∷ f ∷ v) h p = absurd h.1.1.1.1.1
-
-pub closing_spans : (u : List ℕ) (at m e k : ℕ) (i : FieldId) → Spans u at (codes "</") m → Spans u m (letters i) e → Spans u e (codes ">") k → Spans u at (closing i) k
-closing_spans u at m e k i p q r = spans_join u at m k (codes "</") (letters i ++ codes ">") p (spans_join u m e k (letters i) (codes ">") q r)

@@ -1,6 +1,7 @@
 -- Bytes that stand one behind the other. Assumes nothing.
 use Rattle.std.proofs.Common.{◌≡◌, ℕ, ◌+◌, ◌<◌, ◌≤◌, ◌-◌, List, [], ◌∷◌, ◌++◌, length, get_or, take, drop, refl, sym, ap, subst, ◌∙◌, append_assoc, append-nil, length-append, arith}
 use Rattle.std.proofs.lemmas.List.{take_more, take-take, take_at, drop_at, drop-take, length-take-le}
+use Rattle.std.proofs.lemmas.Grind.{common_steps}
 use Rattle.reader.specs.Spans.{Spans}
 
 pub spans_none : (u : List ℕ) (at : ℕ) → at ≤ length u → Spans u at [] at
@@ -46,7 +47,7 @@ module _ (u : List ℕ) (at to : ℕ) where
       record {
         ends = omega arith;
         within = p.within;
-        is = p.is ∙ sym (append_assoc (take at u) v w) ∙ ap (λ (x : List ℕ). x ++ w) (sym (spans_front v w p).is);
+        is = let q = spans_front v w p in grind (arith, common_steps);
       }
 
 -- what stands between a front and a back
@@ -56,3 +57,8 @@ inner_is u at to from end a v b f g p =
     let r = spans_front u (at + length a) to v b q in
     let k = length-append v b in let e = q.ends in let z = r.ends in
     spans_at u from end v (subst (λ (m : ℕ). Spans u m v end) (sym f) (subst (Spans u (at + length a) v) (omega arith) r))
+
+-- the byte at a place is that of the text there
+pub span_byte : (u : List ℕ) (at k m : ℕ) (v : List ℕ) → at ≤ m → m < k → Spans u at v k → get_or u m 0 ≡ get_or v (m - at) 0
+span_byte u at k m v l n p =
+    grind (arith, common_steps)

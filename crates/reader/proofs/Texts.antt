@@ -1,56 +1,81 @@
--- A text so far. Assumes nothing.
-use Rattle.std.proofs.Common.{◌≡◌, ℕ, ◌+◌, ◌<◌, true, false, ◌==◌, List, [], ◌∷◌, ◌++◌, length, get_or, take, drop, sym, ap, ◌∙◌, subst, arith}
-use Rattle.std.proofs.lemmas.List.{take_more, drop_more, take-append-drop}
+-- What is expected, as far as it stands. Assumes nothing.
+use Rattle.std.proofs.Common.{◌≡◌, ◌↔◌, ℕ, ◌+◌, ◌<◌, ◌≤◌, Bool, true, false, ◌==◌, Result, Ok, Err, IfOk, IfErr, List, [], ◌∷◌, ◌++◌, length, get_or, take, drop, refl, sym, ap, ◌∙◌, subst, arith}
+use Rattle.std.proofs.lemmas.Bool.{true≢false, eqb-true}
+use Rattle.std.proofs.lemmas.List.{take_more}
+use Rattle.std.specs.Result.{is_ok}
+use Rattle.std.proofs.lemmas.Grind.{common_steps}
 use Rattle.reader.specs.Spans.{Spans, Departs}
-use Rattle.reader.specs.Scans.{fits, ByteMissing, TextMissing, Are, ClassesStand, ClassesBreak, ClassesMissing}
-use Rattle.reader.specs.declared.scans.Class.{Class}
+use Rattle.reader.specs.Scans.{ByteMissing, TextMissing, Each, Stands, StandsTo, Missing}
 use Rattle.reader.specs.declared.faults.Cause.{Cause}
-use Rattle.reader.specs.declared.faults.Cause.TheVariants.{Elsewhere}
 use Rattle.reader.specs.declared.faults.TagFault.{TagFault}
 use Rattle.reader.specs.declared.faults.TagFault.TheVariants.{Wrong, Ended}
-use Rattle.reader.proofs.Spanning.{spans_more}
+use Rattle.reader.proofs.Spanning.{spans_none, spans_more}
 
-module _ (u : List ℕ) (from at : ℕ) (t : List ℕ) (i : ℕ) (l : i < length t) (spans : Spans u from (take i t) at) where
-  parted : t ≡ take i t ++ (get_or t i 0 ∷ drop (i + 1) t)
-  parted = sym (take-append-drop i t) ∙ ap (λ (w : List ℕ). take i t ++ w) (drop_more t i 0 l)
+module _ {E : Type 0} (takes : E → ℕ → Bool) where
+  each_more : (es : List E) (v : List ℕ) (e : E) (b : ℕ) → Each takes es v → takes e b ≡ true → Each takes (es ++ e ∷ []) (v ++ b ∷ [])
+  each_more [] [] e b h k = (k, tt)
+  each_more [] (x ∷ v) e b h k = absurd h
+  each_more (d ∷ es) [] e b h k = absurd h
+  each_more (d ∷ es) (x ∷ v) e b h k = (h.0, each_more es v e b h.1 k)
 
-  departs : (at < length u → (get_or u at 0 == get_or t i 0) ≡ false) → Departs u from t at
-  departs h = record { read = take i t; next = get_or t i 0; rest = drop (i + 1) t; text = parted; spans = spans; refuses = h }
+  pub stands_none : (u : List ℕ) (at : ℕ) → at ≤ length u → Stands takes u at [] at
+  stands_none u at h = record { bytes = []; each = tt; spans = spans_none u at h }
 
-  pub text_missing : (c : Cause) (f : TagFault) → ByteMissing u at (λ b. b == get_or t i 0) c f → TextMissing u from t c f
-  text_missing c (Wrong d k) (e, p, m, n) = (e, m, subst (Departs u from t) (sym p) (departs (λ _. subst (λ (j : ℕ). (get_or u j 0 == get_or t i 0) ≡ false) p n)))
-  text_missing c (Ended k) (p, e) = (e, subst (Departs u from t) (sym p) (departs (λ m. absurd (omega arith))))
+  module _ (u : List ℕ) (from at : ℕ) (es : List E) (i : ℕ) (e : E) (l : i < length es) (is : e ≡ get_or es i e) (stand : Stands takes u from (take i es) at) where
+    stands_to : (at < length u → takes e (get_or u at 0) ≡ false) → StandsTo takes u from es at
+    stands_to h =
+        record {
+          before = take i es;
+          next = e;
+          rest = drop (i + 1) es;
+          expected = grind (arith, common_steps);
+          stand = stand;
+          refuses = h;
+        }
 
-  pub text_more : at < length u → get_or u at 0 ≡ get_or t i 0 → Spans u from (take (i + 1) t) (at + 1)
-  text_more m e = subst (λ (x : List ℕ). Spans u from x (at + 1)) (ap (λ (b : ℕ). take i t ++ (b ∷ [])) e ∙ sym (take_more t i 0 l)) (spans_more u from at (take i t) spans m)
+    pub missing : (c : Cause) (f : TagFault) → ByteMissing u at (takes e) c f → Missing takes u from es c f
+    missing c (Wrong b k) (q, p, m, n) = (q, m, subst (StandsTo takes u from es) (sym p) (stands_to (λ _. subst (λ (j : ℕ). takes e (get_or u j 0) ≡ false) p n)))
+    missing c (Ended k) (p, q) = (q, subst (StandsTo takes u from es) (sym p) (stands_to (λ m. absurd (omega arith))))
 
--- the same for classes of bytes
-Are-more : (cs : List Class) (v : List ℕ) (c : Class) (b : ℕ) → Are cs v → fits c b ≡ true → Are (cs ++ c ∷ []) (v ++ b ∷ [])
-Are-more [] [] c b h k = (k, tt)
-Are-more [] (x ∷ v) c b h k = absurd h
-Are-more (d ∷ cs) [] c b h k = absurd h
-Are-more (d ∷ cs) (x ∷ v) c b h k = (h.0, Are-more cs v c b h.1 k)
+    pub stands_more : (to : ℕ) → at < length u → takes e (get_or u at 0) ≡ true → to ≡ at + 1 → Stands takes u from (take (i + 1) es) to
+    stands_more to m h q =
+        record {
+          bytes = stand.bytes ++ get_or u at 0 ∷ [];
+          each =
+              subst (λ (x : List E). Each takes x (stand.bytes ++ get_or u at 0 ∷ []))
+              (sym (take_more es i e l ∙ ap (λ (x : E). take i es ++ x ∷ []) (sym is)))
+              (each_more (take i es) stand.bytes e (get_or u at 0) stand.each h);
+          spans = subst (Spans u from (stand.bytes ++ get_or u at 0 ∷ [])) (sym q) (spans_more u from at stand.bytes stand.spans m);
+        }
 
-module _ (u : List ℕ) (from at : ℕ) (cs : List Class) (i : ℕ) (d : Class) (l : i < length cs) (stand : ClassesStand u from (take i cs) at) where
-  breaks : (at < length u → fits (get_or cs i d) (get_or u at 0) ≡ false) → ClassesBreak u from cs at
-  breaks h =
-      record {
-        before = take i cs;
-        next = get_or cs i d;
-        rest = drop (i + 1) cs;
-        classes = sym (take-append-drop i cs) ∙ ap (λ (w : List Class). take i cs ++ w) (drop_more cs i d l);
-        stand = stand;
-        refuses = h;
-      }
+-- a text, whose bytes each take themselves
+abbrev pub same : ℕ → ℕ → Bool
+same e b = b == e
 
-  pub classes_missing : (f : TagFault) → ByteMissing u at (fits (get_or cs i d)) Elsewhere f → ClassesMissing u from cs f
-  classes_missing (Wrong c k) (e, p, m, n) = (e, m, subst (ClassesBreak u from cs) (sym p) (breaks (λ _. subst (λ (j : ℕ). fits (get_or cs i d) (get_or u j 0) ≡ false) p n)))
-  classes_missing (Ended k) (p, e) = (e, subst (ClassesBreak u from cs) (sym p) (breaks (λ m. absurd (omega arith))))
+each_same : (t v : List ℕ) → Each same t v → v ≡ t
+each_same [] [] h = refl
+each_same [] (b ∷ v) h = absurd h
+each_same (e ∷ t) [] h = absurd h
+each_same (e ∷ t) (b ∷ v) h = λ i. eqb-true b e h.0 i ∷ each_same t v h.1 i
 
-  pub classes_more : (b : ℕ) → at < length u → get_or u at 0 ≡ b → fits (get_or cs i d) b ≡ true → ClassesStand u from (take (i + 1) cs) (at + 1)
-  classes_more b m q e =
-      record {
-        bytes = stand.bytes ++ b ∷ [];
-        are = subst (λ (x : List Class). Are x (stand.bytes ++ b ∷ [])) (sym (take_more cs i d l)) (Are-more (take i cs) stand.bytes (get_or cs i d) b stand.are e);
-        spans = subst (λ (x : ℕ). Spans u from (stand.bytes ++ x ∷ []) (at + 1)) q (spans_more u from at stand.bytes stand.spans m);
-      }
+module _ (u : List ℕ) (from : ℕ) where
+  pub text_stands : (t : List ℕ) (to : ℕ) → Stands same u from t to → Spans u from t to
+  text_stands t to h = subst (λ (v : List ℕ). Spans u from v to) (each_same t h.bytes h.each) h.spans
+
+  departs : (t : List ℕ) (k : ℕ) → StandsTo same u from t k → Departs u from t k
+  departs t k h = record { read = h.before; next = h.next; rest = h.rest; text = h.expected; spans = text_stands h.before k h.stand; refuses = h.refuses }
+
+  pub text_missing : (t : List ℕ) (c : Cause) (f : TagFault) → Missing same u from t c f → TextMissing u from t c f
+  text_missing t c (Wrong d k) (e, l, h) = (e, l, departs t k h)
+  text_missing t c (Ended k) (l, h) = (l, departs t k h)
+
+  -- a text that departs does not stand
+  pub departs_not : (t : List ℕ) (k to : ℕ) → Departs u from t k → Spans u from t to → ⊥
+  departs_not t k to d p = grind (arith, common_steps)
+
+  pub text_found : {T : Type 0} (at : T → ℕ) (t : List ℕ) (c : Cause) (r : Result T TagFault)
+      → IfOk r (λ p. at p ≡ from + length t) → IfOk r (λ p. Stands same u from t (at p)) → IfErr r (λ f. Missing same u from t c f)
+      → (is_ok r ≡ true) ↔ Spans u from t (from + length t)
+  text_found at t c (Ok p) e h m = ((λ _. subst (Spans u from t) e (text_stands t (at p) h)), (λ _. refl))
+  text_found at t c (Err (Wrong d k)) e h (q, l, m) = ((λ q. absurd (true≢false (sym q))), (λ p. absurd (departs_not t k _ (departs t k m) p)))
+  text_found at t c (Err (Ended k)) e h (l, m) = ((λ q. absurd (true≢false (sym q))), (λ p. absurd (departs_not t k _ (departs t k m) p)))

@@ -2,7 +2,7 @@
 use Rattle.std.proofs.Common.{◌≡◌, ℕ, ◌+◌, ◌<◌, ◌≤◌, List, [], ◌∷◌, ◌++◌, length, take, drop, Result, Ok, Err, refl, sym, ap, ◌∙◌, subst, append_assoc, append-nil, inl, inr, arith}
 use Rattle.std.proofs.lemmas.Bool.{true≢false, cases_lt}
 use Rattle.std.proofs.lemmas.List.{take-append-drop, take-take}
-use Rattle.grammar.specs.Grammar.{declaration, spelling, Leads, Lawful, Begins}
+use Rattle.grammar.specs.Grammar.{spelling, Leads, Lawful, Begins}
 use Rattle.grammar.specs.Threads.{spells, run, start}
 use Rattle.grammar.specs.declared.states.State.{State}
 use Rattle.grammar.specs.declared.states.State.TheVariants.{Record, Body}
@@ -14,7 +14,7 @@ use Rattle.reader.specs.declared.faults.Cause.{Cause}
 use Rattle.reader.specs.declared.faults.Cause.TheVariants as cause
 use Rattle.reader.specs.declared.faults.Refusal.{Refusal}
 use Rattle.reader.specs.declared.faults.Refusal.TheVariants.{Declaration, Unlawful, NoHeader, NoVisit, CutShort}
-use Rattle.reader.proofs.Verdicts.{inside_kind, in_closing_kind}
+use Rattle.reader.proofs.Verdicts.{declared_on, inside_kind, in_closing_kind}
 use Rattle.reader.proofs.Misses.{in_tag, dead_behind, in_tag_between, dead_on}
 use Rattle.reader.proofs.Blames.{Strays, strays_header, strays_visit}
 
@@ -26,9 +26,6 @@ front_begins v w b = (w ++ b.0, subst Lawful (append_assoc v w b.0) b.1)
 begins_take : (bs : List ℕ) (n : ℕ) → Begins bs → Begins (take n bs)
 begins_take bs n b = front_begins (take n bs) (drop n bs) (subst Begins (sym (take-append-drop n bs)) b)
 
-lawful_begins : (bs : List ℕ) (n : ℕ) → Lawful bs → Begins (take n bs)
-lawful_begins bs n l = (drop n bs, subst Lawful (sym (take-append-drop n bs)) l)
-
 begins_shorter : (bs : List ℕ) (m n : ℕ) → m ≤ n → Begins (take n bs) → Begins (take m bs)
 begins_shorter bs m n l b = subst Begins (take-take m n bs l) (begins_take (take n bs) m b)
 
@@ -37,11 +34,12 @@ first_before bs j k f g l = let z = g.within in f.breaks (omega arith) (begins_s
 
 first_unique : (bs : List ℕ) (j k : ℕ) → FirstWrong bs j → FirstWrong bs k → j ≡ k
 first_unique bs j k f g =
-    elim (cases_lt j k) [ inl l ↦ absurd (first_before bs j k f g l) | inr m ↦ elim (cases_lt k j) [ inl l ↦ absurd (first_before bs k j g f l) | inr n ↦ omega arith ] ]
+    let p : j < k → ⊥ = first_before bs j k f g in
+    let q : k < j → ⊥ = first_before bs k j g f in
+    omega arith
 
 leads_declared : (bs : List ℕ) (k : ℕ) (s : State) → Leads (take k bs) s → Declared bs
-leads_declared bs k s l =
-    (l.rest ++ drop k bs, sym (take-append-drop k bs) ∙ ap (λ (x : List ℕ). x ++ drop k bs) l.declared ∙ append_assoc declaration l.rest (drop k bs))
+leads_declared bs k s l = declared_on bs k (l.rest, l.declared)
 
 -- ---- stray tags
 
@@ -61,7 +59,9 @@ strays_before bs j k r s t v m n l =
 
 strays_unique : (bs : List ℕ) (j k : ℕ) (r s : State) (t v : Tag) → Strays bs j r t → Strays bs k s v → j ≡ k
 strays_unique bs j k r s t v m n =
-    elim (cases_lt j k) [ inl l ↦ absurd (strays_before bs j k r s t v m n l) | inr p ↦ elim (cases_lt k j) [ inl l ↦ absurd (strays_before bs k j s r v t n m l) | inr q ↦ omega arith ] ]
+    let p : j < k → ⊥ = strays_before bs j k r s t v m n in
+    let q : k < j → ⊥ = strays_before bs k j s r v t n m in
+    omega arith
 
 header_or_visit : (bs : List ℕ) (j k : ℕ) (t v : Tag) → Strays bs j Record t → Strays bs k Body v → ⊥
 header_or_visit bs j k t v m n =

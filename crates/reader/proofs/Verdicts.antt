@@ -13,7 +13,7 @@ use Rattle.grammar.proofs.Tested.{test_from_lawful}
 use Rattle.reader.specs.Spans.{Spans, Departs, Halved, half}
 use Rattle.reader.specs.Scans.{ValueBreaksAt}
 use Rattle.reader.specs.Readings.{Fails, in_structure, in_opening, behind_all, in_value, at_slash, in_id, at_end}
-use Rattle.reader.specs.Moves.{Reached, StandsAt}
+use Rattle.reader.specs.Moves.{InField, Reached, StandsAt}
 use Rattle.reader.specs.Laws.{Declared, FirstWrong, Inside, InClosingId, Caused, Ends}
 use Rattle.reader.specs.declared.stations.Station.{Station}
 use Rattle.reader.specs.declared.stations.Station.TheVariants.{Between, Opened, Filled}
@@ -47,17 +47,20 @@ module _ (u : List ℕ) (k : ℕ) (c : Cause) (h : Halts u k c) where
 
 -- ---- the declaration
 
+field_declared : (w : List ℕ) (g : Segment) (i : FieldId) (v q : List ℕ) → InField w g i v q → Declared w
+field_declared w g i v q h =
+    (h.leads.rest ++ (opening i ++ (v ++ q)), h.is ∙ ap (λ (x : List ℕ). x ++ (opening i ++ (v ++ q))) h.leads.declared ∙ append_assoc declaration h.leads.rest (opening i ++ (v ++ q)))
+
 reached_declared : (w : List ℕ) (s : Station) → Reached w s → Declared w
 reached_declared w (Between s) h = (h.rest, h.declared)
-reached_declared w (Opened g i) h =
-    (h.leads.rest ++ (opening i ++ []), h.is ∙ ap (λ (x : List ℕ). x ++ (opening i ++ [])) h.leads.declared ∙ append_assoc declaration h.leads.rest (opening i ++ []))
-reached_declared w (Filled g i) (v, h) =
-    (h.leads.rest ++ (opening i ++ (v ++ [])), h.is ∙ ap (λ (x : List ℕ). x ++ (opening i ++ (v ++ []))) h.leads.declared ∙ append_assoc declaration h.leads.rest (opening i ++ (v ++ [])))
+reached_declared w (Opened g i) h = field_declared w g i [] [] h
+reached_declared w (Filled g i) (v, h) = field_declared w g i v [] h
+
+pub declared_on : (u : List ℕ) (k : ℕ) → Declared (take k u) → Declared u
+declared_on u k (r, e) = (r ++ drop k u, sym (take-append-drop k u) ∙ ap (λ (x : List ℕ). x ++ drop k u) e ∙ append_assoc declaration r (drop k u))
 
 pub stands_declared : (u : List ℕ) (at : ℕ) (s : Station) → StandsAt u at s → Declared u
-stands_declared u at s h =
-    let d = reached_declared (take at u) s h.reached in
-    (d.0 ++ drop at u, sym (take-append-drop at u) ∙ ap (λ (x : List ℕ). x ++ drop at u) d.1 ∙ append_assoc declaration d.0 (drop at u))
+stands_declared u at s h = declared_on u at (reached_declared (take at u) s h.reached)
 
 -- ---- the cause
 

@@ -20,8 +20,8 @@ use Rattle.grammar.specs.declared.states.FieldId.{FieldId}
 use Rattle.grammar.specs.declared.states.Wanted.TheVariants as want
 use Rattle.reader.specs.Spans.{Spans, Departs, Whites, Settles}
 use Rattle.reader.specs.Scans.{ClassesBreak, ValueBreaksAt}
-use Rattle.reader.specs.declared.scans.Class.{Class}
-use Rattle.reader.specs.declared.scans.Class.TheVariants.{Byte, Capital, Digit}
+use Rattle.reader.specs.declared.classes.Class.{Class}
+use Rattle.reader.specs.declared.classes.Class.TheVariants.{Byte, Capital, Digit}
 use Rattle.reader.specs.declared.stations.Station.{Station}
 use Rattle.reader.specs.declared.stations.Station.TheVariants.{Between, Opened, Filled}
 use Rattle.reader.specs.declared.stations.Token.{Token}

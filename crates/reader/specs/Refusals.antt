@@ -1,11 +1,14 @@
 -- The refusals of whole uploads by number, cause and place, and how a fault becomes one. Assumes nothing.
 --     number_of r            the number of a refusal
---     cause_of r             its cause: 0, unless the upload is unlawful
---     place_of r             its place
+--     cause_of r             its cause: none, unless the upload is unlawful
+--     place_of r             its place: none for a length or a call
+--     told_cause r           the number of its cause, and 0 for none
+--     told_place r           its place, and 0 for none
 --     cause_number c         the number of a cause
 --     character_to_tag f     a fault in a character, as one in a tag: the cause is a value, the place stays
 --     tag_to_refusal f       a fault in a tag, as a refusal: cause and place stay
-use Rattle.std.specs.Prelude.{ℕ}
+use Rattle.std.specs.Prelude.{ℕ, Option, Some, None}
+use Rattle.std.specs.Option.{option_map, unwrap_or}
 use Rattle.reader.specs.declared.faults.Cause.{Cause}
 use Rattle.reader.specs.declared.faults.Cause.TheVariants.{Value, ClosingId, Elsewhere}
 use Rattle.reader.specs.declared.faults.CharacterFault.{CharacterFault}
@@ -31,27 +34,26 @@ number_of (Foreign place) = 7
 number_of (TooMany place) = 8
 number_of Call = 9
 
-abbrev pub cause_of : Refusal → ℕ
-cause_of Length = 0
-cause_of (Declaration place) = 0
-cause_of (Unlawful cause place) = cause_number cause
-cause_of (NoHeader place) = 0
-cause_of (NoVisit place) = 0
-cause_of (CutShort place) = 0
-cause_of (Foreign place) = 0
-cause_of (TooMany place) = 0
-cause_of Call = 0
+abbrev pub cause_of : Refusal → Option Cause
+cause_of (Unlawful cause place) = Some cause
+cause_of _ = None
 
-abbrev pub place_of : Refusal → ℕ
-place_of Length = 0
-place_of (Declaration place) = place
-place_of (Unlawful cause place) = place
-place_of (NoHeader place) = place
-place_of (NoVisit place) = place
-place_of (CutShort place) = place
-place_of (Foreign place) = place
-place_of (TooMany place) = place
-place_of Call = 0
+abbrev pub place_of : Refusal → Option ℕ
+place_of Length = None
+place_of (Declaration place) = Some place
+place_of (Unlawful cause place) = Some place
+place_of (NoHeader place) = Some place
+place_of (NoVisit place) = Some place
+place_of (CutShort place) = Some place
+place_of (Foreign place) = Some place
+place_of (TooMany place) = Some place
+place_of Call = None
+
+abbrev pub told_cause : Refusal → ℕ
+told_cause r = unwrap_or (option_map cause_number (cause_of r)) 0
+
+abbrev pub told_place : Refusal → ℕ
+told_place r = unwrap_or (place_of r) 0
 
 abbrev pub character_to_tag : CharacterFault → TagFault
 character_to_tag (character.Wrong place) = tag.Wrong Value place

@@ -12,11 +12,12 @@ pub enum Cause {
     Elsewhere,
 }
 
-impl Cause {
-    pub fn number(self) -> u8
-        ensures { result ≡ cause_number self }
-    {
-        match self {
+// The number of a cause in the format.
+impl From<Cause> for u8 {
+    ghost from_gives = { λ c n. n ≡ cause_number c };
+
+    fn from(cause: Cause) -> u8 {
+        match cause {
             Cause::Value => 1,
             Cause::ClosingId => 2,
             Cause::Elsewhere => 3,
@@ -87,6 +88,7 @@ impl From<TagFault> for Refusal {
 }
 
 impl Refusal {
+    // A method and no From: the number is one of three things that a refusal tells.
     pub fn number(self) -> u8
         ensures { result ≡ number_of self }
     {
@@ -103,27 +105,27 @@ impl Refusal {
         }
     }
 
-    pub fn cause(self) -> u8
+    pub fn cause(self) -> Option<Cause>
         ensures { result ≡ cause_of self }
     {
         match self {
-            Refusal::Unlawful { cause, .. } => cause.number(),
-            _ => 0,
+            Refusal::Unlawful { cause, .. } => Some(cause),
+            _ => None,
         }
     }
 
-    pub fn place(self) -> usize
+    pub fn place(self) -> Option<usize>
         ensures { result ≡ place_of self }
     {
         match self {
-            Refusal::Length | Refusal::Call => 0,
-            Refusal::Declaration { place } => place,
-            Refusal::Unlawful { place, .. } => place,
-            Refusal::NoHeader { place } => place,
-            Refusal::NoVisit { place } => place,
-            Refusal::CutShort { place } => place,
-            Refusal::Foreign { place } => place,
-            Refusal::TooMany { place } => place,
+            Refusal::Length | Refusal::Call => None,
+            Refusal::Declaration { place }
+            | Refusal::Unlawful { place, .. }
+            | Refusal::NoHeader { place }
+            | Refusal::NoVisit { place }
+            | Refusal::CutShort { place }
+            | Refusal::Foreign { place }
+            | Refusal::TooMany { place } => Some(place),
         }
     }
 }

@@ -1,9 +1,9 @@
-// Whether a tag of the structure stands where another must. Private to the crate: those who call have a place within the upload.
-ghost use Rattle.std.specs.Prelude.{◌≡◌, ◌≤◌, ◌↔◌, length, IsTrue, OnOk, IfErr};
+// Whether a tag of the structure stands where another must.
+ghost use Rattle.std.specs.Prelude.{◌≡◌, ◌↔◌, IsTrue, OnOk, IfErr};
 ghost use Rattle.reader.specs.Places.{TagStands, SomeTagStands, OtherStands, Fitting, Misplaced};
 
 use crate::faults::{Cause, Refusal};
-use crate::scans::text_end;
+use crate::place::Place;
 use grammar::states::{Element, State, Tag};
 
 const TAGS: [Tag; 12] = [
@@ -21,48 +21,38 @@ const TAGS: [Tag; 12] = [
     Tag::Close(Element::Mb2),
 ];
 
-fn tag_stands(upload: &[u8], at: usize, tag: Tag) -> bool
-    requires { at ≤ length upload.now }
-    ensures { IsTrue result ↔ TagStands upload.now at tag }
-{
-    match text_end(upload, at, tag.text(), Cause::Elsewhere) {
-        Ok(_) => true,
-        Err(_) => false,
+impl<'a> Place<'a> {
+    fn tag_stands(self, tag: Tag) -> bool
+        ensures { IsTrue result ↔ TagStands self.entry.upload.now self.entry.at tag }
+    {
+        self.past(tag.text(), Cause::Elsewhere).is_ok()
     }
-}
 
-fn some_tag_stands(upload: &[u8], at: usize) -> bool
-    requires { at ≤ length upload.now }
-    ensures { IsTrue result ↔ SomeTagStands upload.now at }
-{
-    for tag in &TAGS {
-        if tag_stands(upload, at, *tag) {
-            return true;
+    fn some_tag_stands(self) -> bool
+        ensures { IsTrue result ↔ SomeTagStands self.entry.upload.now self.entry.at }
+    {
+        TAGS.iter().any(|tag| self.tag_stands(*tag))
+    }
+
+    fn other_stands(self, wanted: Tag) -> bool
+        ensures { IsTrue result ↔ OtherStands self.entry.upload.now self.entry.at wanted }
+    {
+        !self.tag_stands(wanted) && self.some_tag_stands()
+    }
+
+    // Refuses another tag of the structure where <MSH> or <MB1> must stand.
+    pub(crate) fn check_segment(self, state: State) -> Result<(), Refusal>
+        ensures fitting { OnOk result (Fitting self.entry.upload.now self.entry.at state) }
+        ensures misplaced { IfErr result (λ r. Misplaced self.entry.upload.now self.entry.at state r) }
+    {
+        match state {
+            State::Record if self.other_stands(Tag::Open(Element::Msh)) => Err(Refusal::NoHeader {
+                place: self.at,
+            }),
+            State::Body if self.other_stands(Tag::Open(Element::Mb1)) => Err(Refusal::NoVisit {
+                place: self.at,
+            }),
+            _ => Ok(()),
         }
-    }
-    false
-}
-
-fn other_stands(upload: &[u8], at: usize, wanted: Tag) -> bool
-    requires { at ≤ length upload.now }
-    ensures { IsTrue result ↔ OtherStands upload.now at wanted }
-{
-    !tag_stands(upload, at, wanted) && some_tag_stands(upload, at)
-}
-
-// Refuses another tag of the structure where <MSH> or <MB1> must stand.
-pub(crate) fn check_segment(upload: &[u8], at: usize, state: State) -> Result<(), Refusal>
-    requires { at ≤ length upload.now }
-    ensures fitting { OnOk result (Fitting upload.now at state) }
-    ensures misplaced { IfErr result (λ r. Misplaced upload.now at state r) }
-{
-    match state {
-        State::Record if other_stands(upload, at, Tag::Open(Element::Msh)) => Err(
-            Refusal::NoHeader { place: at },
-        ),
-        State::Body if other_stands(upload, at, Tag::Open(Element::Mb1)) => Err(Refusal::NoVisit {
-            place: at,
-        }),
-        _ => Ok(()),
     }
 }

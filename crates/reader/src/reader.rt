@@ -6,32 +6,28 @@ ghost use Rattle.reader.specs.Laws.{Law};
 ghost use Rattle.reader.specs.Readings.{part, Reading, Reads};
 
 use crate::faults::{Cause, Refusal, TagFault};
-use crate::misplaced::check_segment;
-use crate::scans::{settled_at, text_end};
+use crate::place::Place;
 use crate::stations::Station::{Between, Filled, Opened};
 use crate::stations::{Station, Token};
-use crate::tokens::{closing_at, tag_at, value_at};
 use grammar::states::{FieldId, Segment, State};
 use grammar::tags::declaration_text;
 
 #[derive(Drop)]
 pub(crate) struct Reader<'a> {
-    upload: &'a [u8],
-    at: usize,
+    place: Place<'a>,
     station: Station,
 }
 
 impl<'a> Reader<'a> {
     // Behind the declaration.
     pub(crate) fn begin(upload: &'a [u8]) -> Result<Reader<'a>, Refusal>
-        ensures upload { IfOk result (λ r. r.upload ≡ upload.entry) }
-        ensures begun { IfOk result (λ r. StandsAt upload.entry.now r.at r.station) }
+        ensures upload { IfOk result (λ r. r.place.upload ≡ upload.entry) }
+        ensures begun { IfOk result (λ r. StandsAt upload.entry.now r.place.at r.station) }
         ensures refused { IfErr result (λ f. Undeclared upload.entry.now f) }
     {
-        match text_end(upload, 0, declaration_text(), Cause::Elsewhere) {
+        match Place::first(upload).past(declaration_text(), Cause::Elsewhere) {
             Ok(end) => Ok(Reader {
-                upload,
-                at: settled_at(upload, end),
+                place: end.past_white(),
                 station: Between(State::Start),
             }),
             Err(TagFault::Wrong { place, .. } | TagFault::Ended { place }) => {
@@ -40,29 +36,29 @@ impl<'a> Reader<'a> {
         }
     }
 
-    // The token that stands here, and where the next one may.
-    fn read(&self) -> Result<(Token<'a>, usize), Refusal>
-        requires { self.now.at < length self.now.upload.now }
-        ensures reads { IfOk result (λ r. Reads self.entry.now.upload.now self.entry.now.at self.entry.now.station (part r.0) r.1) }
-        ensures stops { IfErr result (λ r. Stops self.entry.now.upload.now self.entry.now.at self.entry.now.station r) }
+    // The token that stands here, and the place behind it.
+    fn read(&self) -> Result<(Token<'a>, Place<'a>), Refusal>
+        ensures upload { IfOk result (λ r. r.1.upload ≡ self.entry.now.place.upload) }
+        ensures reads { IfOk result (λ r. Reads self.entry.now.place.upload.now self.entry.now.place.at self.entry.now.station (part r.0) r.1.at) }
+        ensures stops { IfErr result (λ r. Stops self.entry.now.place.upload.now self.entry.now.place.at self.entry.now.station r) }
     {
         match self.station {
             Between(state) => {
-                check_segment(self.upload, self.at, state)?;
-                Ok(tag_at(self.upload, self.at, state)?)
+                self.place.check_segment(state)?;
+                Ok(self.place.tag(state)?)
             }
-            Opened(segment, id) => Ok(value_at(self.upload, self.at, segment, id)?),
-            Filled(segment, id) => Ok(closing_at(self.upload, self.at, segment, id)?),
+            Opened(..) => Ok(self.place.value()?),
+            Filled(_, id) => Ok(self.place.closing(id)?),
         }
     }
 
     // Goes to the place and the station behind a token.
-    fn advance(&mut self, token: Token<'a>, to: usize)
-        ensures upload { self.new.upload ≡ self.old.upload }
-        ensures at { self.new.at ≡ to }
+    fn advance(&mut self, token: Token<'a>, behind: Place<'a>)
+        ensures upload { self.new.place.upload ≡ behind.entry.upload }
+        ensures at { self.new.place.at ≡ behind.entry.at }
         ensures station { self.new.station ≡ after self.old.station (part token.entry) }
     {
-        self.at = to;
+        self.place = behind;
         self.station = match (self.station, token) {
             (Between(State::Start), Token::Open { .. }) => Between(State::Records),
             (Between(State::Records), Token::Open { .. }) => Between(State::Record),
@@ -90,32 +86,24 @@ impl<'a> Reader<'a> {
         };
     }
 
-    // At the end of the upload: whether it may end here.
-    fn end(&self) -> Result<Option<Token<'a>>, Refusal>
-        requires stands { StandsAt self.now.upload.now self.now.at self.now.station }
-        requires whole { self.now.at ≡ length self.now.upload.now }
-        ensures ends { IfOk result (λ o. IsNone o × Lawful self.entry.now.upload.now) }
-        ensures refused { IfErr result (λ r. Law self.entry.now.upload.now (Err r)) }
-    {
-        if self.station.may_end() {
-            return Ok(None);
-        }
-        Err(Refusal::CutShort { place: self.at })
-    }
-
     // Goes on by one token; none is left at the end of a lawful upload.
     pub(crate) fn step(&mut self) -> Result<Option<Token<'a>>, Refusal>
-        requires { StandsAt self.old.upload.now self.old.at self.old.station }
-        ensures upload { self.new.upload ≡ self.old.upload }
-        ensures reads { IfOk result (λ o. IfSome o (λ x. Reading self.old.upload.now self.old.at self.old.station (part x) self.new.station self.new.at)) }
-        ensures ends { IfOk result (λ o. IfNone o (Lawful self.old.upload.now)) }
-        ensures refused { IfErr result (λ r. Law self.old.upload.now (Err r)) }
+        requires { StandsAt self.old.place.upload.now self.old.place.at self.old.station }
+        ensures upload { self.new.place.upload ≡ self.old.place.upload }
+        ensures reads { IfOk result (λ o. IfSome o (λ x. Reading self.old.place.upload.now self.old.place.at self.old.station (part x) self.new.station self.new.place.at)) }
+        ensures ends { IfOk result (λ o. IfNone o (Lawful self.old.place.upload.now)) }
+        ensures refused { IfErr result (λ r. Law self.old.place.upload.now (Err r)) }
     {
-        if self.at == self.upload.len() {
-            return self.end();
+        match self.place.byte() {
+            None if self.station.may_end() => Ok(None),
+            None => Err(Refusal::CutShort {
+                place: self.place.at,
+            }),
+            Some(_) => {
+                let (token, behind) = self.read()?;
+                self.advance(token, behind);
+                Ok(Some(token))
+            }
         }
-        let (token, to) = self.read()?;
-        self.advance(token, to);
-        Ok(Some(token))
     }
 }

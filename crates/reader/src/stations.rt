@@ -24,7 +24,7 @@ impl Station {
 }
 
 // A piece of the upload, and its place: that of a tag is the place of its `<`.
-#[derive(Clone, Copy)]
+#[derive(Clone, Copy, PartialEq, Eq, Debug)]
 pub enum Token<'a> {
     Open { name: &'a [u8], place: usize },
     Close { name: &'a [u8], place: usize },

@@ -1,61 +1,17 @@
-// Reading one token from a place. Private to the crate: those who call have a place within the upload.
-ghost use Rattle.std.specs.Prelude.{◌≡◌, ◌≤◌, ◌<◌, length, IfOk, IfErr, slice_index};
-ghost use Rattle.grammar.specs.Grammar.{spelling, Id};
-ghost use Rattle.reader.specs.Readings.{part, structure_part, Breaks, Reads, ReadsStructure, ReadsOpening, OpeningMissing};
+// Reading one token from a place: it, and the place behind it.
+ghost use Rattle.std.specs.Prelude.{◌≡◌, IfOk, IfErr};
+ghost use Rattle.grammar.specs.Grammar.{spelling};
+ghost use Rattle.grammar.specs.declared.states.Segment.{Segment};
+ghost use Rattle.grammar.specs.declared.states.FieldId.{FieldId};
+ghost use Rattle.reader.specs.Readings.{part, Breaks, Reads, ReadsStructure, ReadsOpening, OpeningMissing};
 ghost use Rattle.reader.specs.Scans.{TextMissing};
-ghost use Rattle.reader.specs.Spans.{Spans};
 
+use crate::classes::Class;
 use crate::faults::{Cause, TagFault};
-use crate::scans::{Class, classes_end, settled_at, text_end, value_end};
+use crate::place::Place;
 use crate::stations::{Station, Token};
 use grammar::ahead::closes;
-use grammar::states::{FieldId, Segment, State, Tag, Wanted};
-
-// The token of a tag of the structure that stands between the places.
-fn structure_token<'a>(upload: &'a [u8], at: usize, end: usize, tag: Tag) -> Token<'a>
-    requires { Spans upload.now at (spelling tag) end }
-    ensures { part result ≡ structure_part tag at }
-{
-    match tag {
-        Tag::Open(_) => Token::Open {
-            name: &upload[at + 1..end - 1],
-            place: at,
-        },
-        Tag::Close(_) => Token::Close {
-            name: &upload[at + 2..end - 1],
-            place: at,
-        },
-    }
-}
-
-// The tag of the structure, and the white space behind it.
-fn structure_at<'a>(upload: &'a [u8], at: usize, tag: Tag) -> Result<(Token<'a>, usize), TagFault>
-    requires { at ≤ length upload.now }
-    ensures reads { IfOk result (λ r. ReadsStructure upload.entry.now at tag (part r.0) r.1) }
-    ensures missing { IfErr result (λ f. TextMissing upload.entry.now at (spelling tag) Cause.Elsewhere f) }
-{
-    let end = text_end(upload, at, tag.text(), Cause::Elsewhere)?;
-    Ok((
-        structure_token(upload, at, end, tag),
-        settled_at(upload, end),
-    ))
-}
-
-// The opening tag of a field.
-fn opening_at<'a>(upload: &'a [u8], at: usize) -> Result<(Token<'a>, usize), TagFault>
-    requires { at ≤ length upload.now }
-    ensures reads { IfOk result (λ r. ReadsOpening upload.entry.now at (part r.0) r.1) }
-    ensures missing { IfErr result (λ f. OpeningMissing upload.entry.now at f) }
-{
-    let end = classes_end(upload, at, &OPENING)?;
-    Ok((
-        Token::Open {
-            name: &upload[at + 1..end - 1],
-            place: at,
-        },
-        end,
-    ))
-}
+use grammar::states::{FieldId, State, Tag, Wanted};
 
 const OPENING: [Class; 5] = [
     Class::Byte(b'<'),
@@ -65,71 +21,85 @@ const OPENING: [Class; 5] = [
     Class::Byte(b'>'),
 ];
 
-// The tag between others.
-pub(crate) fn tag_at<'a>(
-    upload: &'a [u8],
-    at: usize,
-    state: State,
-) -> Result<(Token<'a>, usize), TagFault>
-    requires { at < length upload.now }
-    ensures reads { IfOk result (λ r. Reads upload.entry.now at (Station.Between state) (part r.0) r.1) }
-    ensures breaks { IfErr result (λ f. Breaks upload.entry.now at (Station.Between state) f) }
-{
-    match state.wants(closes(upload, at)) {
-        Wanted::Structure(tag) => structure_at(upload, at, tag),
-        Wanted::Field(_) => opening_at(upload, at),
-        Wanted::Nothing => Err(TagFault::Wrong {
-            cause: Cause::Elsewhere,
-            place: at,
-        }),
+impl<'a> Place<'a> {
+    // The tag of the structure, and the white space behind it.
+    fn structure(self, tag: Tag) -> Result<(Token<'a>, Place<'a>), TagFault>
+        ensures upload { IfOk result (λ r. r.1.upload ≡ self.entry.upload) }
+        ensures reads { IfOk result (λ r. ReadsStructure self.entry.upload.now self.entry.at tag (part r.0) r.1.at) }
+        ensures missing { IfErr result (λ f. TextMissing self.entry.upload.now self.entry.at (spelling tag) Cause.Elsewhere f) }
+    {
+        let end = self.past(tag.text(), Cause::Elsewhere)?;
+        let token = match tag {
+            Tag::Open(_) => Token::Open {
+                name: &self.upload[self.at + 1..end.at - 1],
+                place: self.at,
+            },
+            Tag::Close(_) => Token::Close {
+                name: &self.upload[self.at + 2..end.at - 1],
+                place: self.at,
+            },
+        };
+        Ok((token, end.past_white()))
     }
-}
 
-// The value of a field.
-pub(crate) fn value_at<'a>(
-    upload: &'a [u8],
-    at: usize,
-    segment: Segment,
-    id: FieldId,
-) -> Result<(Token<'a>, usize), TagFault>
-    requires { at ≤ length upload.now }
-    ensures reads { IfOk result (λ r. Reads upload.entry.now at (Station.Opened segment id) (part r.0) r.1) }
-    ensures breaks { IfErr result (λ f. Breaks upload.entry.now at (Station.Opened segment id) f) }
-{
-    let end = value_end(upload, at)?;
-    Ok((
-        Token::Value {
-            bytes: &upload[at..end],
-            place: at,
-        },
-        end,
-    ))
-}
+    // The opening tag of a field.
+    fn opening(self) -> Result<(Token<'a>, Place<'a>), TagFault>
+        ensures upload { IfOk result (λ r. r.1.upload ≡ self.entry.upload) }
+        ensures reads { IfOk result (λ r. ReadsOpening self.entry.upload.now self.entry.at (part r.0) r.1.at) }
+        ensures missing { IfErr result (λ f. OpeningMissing self.entry.upload.now self.entry.at f) }
+    {
+        let end = self.past(&OPENING, Cause::Elsewhere)?;
+        let token = Token::Open {
+            name: &self.upload[self.at + 1..end.at - 1],
+            place: self.at,
+        };
+        Ok((token, end))
+    }
 
-// The closing tag of a field, and the white space behind it.
-pub(crate) fn closing_at<'a>(
-    upload: &'a [u8],
-    at: usize,
-    segment: Segment,
-    id: FieldId,
-) -> Result<(Token<'a>, usize), TagFault>
-    requires { at ≤ length upload.now }
-    ensures reads { IfOk result (λ r. Reads upload.entry.now at (Station.Filled segment id) (part r.0) r.1) }
-    ensures breaks { IfErr result (λ f. Breaks upload.entry.now at (Station.Filled segment id) f) }
-{
-    let name = text_end(upload, at, b"</", Cause::Elsewhere)?;
-    let end = text_end(
-        upload,
-        name,
-        &[id.letter, id.tens, id.ones],
-        Cause::ClosingId,
-    )?;
-    let close = text_end(upload, end, b">", Cause::Elsewhere)?;
-    Ok((
-        Token::Close {
-            name: &upload[name..end],
-            place: at,
-        },
-        settled_at(upload, close),
-    ))
+    // The tag between others.
+    pub(crate) fn tag(self, state: State) -> Result<(Token<'a>, Place<'a>), TagFault>
+        ensures upload { IfOk result (λ r. r.1.upload ≡ self.entry.upload) }
+        ensures reads { IfOk result (λ r. Reads self.entry.upload.now self.entry.at (Station.Between state) (part r.0) r.1.at) }
+        ensures breaks { IfErr result (λ f. Breaks self.entry.upload.now self.entry.at (Station.Between state) f) }
+    {
+        match state.wants(closes(self.upload, self.at)) {
+            Wanted::Structure(tag) => self.structure(tag),
+            Wanted::Field(_) => self.opening(),
+            Wanted::Nothing => Err(self.fault(Cause::Elsewhere)),
+        }
+    }
+
+    // The value of a field.
+    pub(crate) fn value(self) -> Result<(Token<'a>, Place<'a>), TagFault>
+        ensures upload { IfOk result (λ r. r.1.upload ≡ self.entry.upload) }
+        ensures reads { IfOk result
+            (λ r. (g : Segment) (i : FieldId) → Reads self.entry.upload.now self.entry.at (Station.Opened g i) (part r.0) r.1.at) }
+        ensures breaks { IfErr result
+            (λ f. (g : Segment) (i : FieldId) → Breaks self.entry.upload.now self.entry.at (Station.Opened g i) f) }
+    {
+        let end = self.value_end()?;
+        let token = Token::Value {
+            bytes: &self.upload[self.at..end.at],
+            place: self.at,
+        };
+        Ok((token, end))
+    }
+
+    // The closing tag of a field, and the white space behind it.
+    pub(crate) fn closing(self, id: FieldId) -> Result<(Token<'a>, Place<'a>), TagFault>
+        ensures upload { IfOk result (λ r. r.1.upload ≡ self.entry.upload) }
+        ensures reads { IfOk result
+            (λ r. (g : Segment) → Reads self.entry.upload.now self.entry.at (Station.Filled g id) (part r.0) r.1.at) }
+        ensures breaks { IfErr result
+            (λ f. (g : Segment) → Breaks self.entry.upload.now self.entry.at (Station.Filled g id) f) }
+    {
+        let name = self.past(b"</", Cause::Elsewhere)?;
+        let end = name.past(&[id.letter, id.tens, id.ones], Cause::ClosingId)?;
+        let close = end.past(b">", Cause::Elsewhere)?;
+        let token = Token::Close {
+            name: &self.upload[name.at..end.at],
+            place: self.at,
+        };
+        Ok((token, close.past_white()))
+    }
 }

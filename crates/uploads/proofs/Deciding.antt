@@ -1,14 +1,16 @@
 -- One answer to a call is right, and no other. Assumes nothing.
-use Rattle.std.proofs.Common.{◌≡◌, ℕ, true, false, List, [], ◌∷◌, ◌++◌, Some, None, Result, Ok, Err, MatchOption, codes, refl, sym, ap, ◌∙◌, subst, arith}
-use Rattle.std.proofs.lemmas.Bool.{true≢false}
+use Rattle.std.proofs.Common.{◌≡◌, ℕ, true, false, List, [], ◌∷◌, ◌++◌, Option, Some, None, Result, Ok, Err, MatchOption, codes, refl, sym, ap, ◌∙◌, subst, arith}
 use Rattle.std.proofs.lemmas.Option.{MatchOption-at_some, MatchOption-at_none}
+use Rattle.std.specs.Option.{option_map, ok_or}
 use Rattle.calendar.specs.Calendar.{Date}
+use Rattle.calendar.specs.Days.{date_of}
+use Rattle.calendar.specs.declared.day.Day.{Day}
 use Rattle.grammar.specs.Grammar.{declaration, Lawful}
 use Rattle.reader.specs.Spans.{Departs}
 use Rattle.reader.specs.Laws.{Law, taken as lawfully}
 use Rattle.reader.specs.declared.faults.Refusal.{Refusal}
-use Rattle.reader.specs.declared.faults.Refusal.TheVariants.{Declaration, Foreign, TooMany}
-use Rattle.reader.proofs.Uniques.{one}
+use Rattle.reader.specs.declared.faults.Refusal.TheVariants.{Declaration, Foreign, TooMany, Call}
+use Rattle.reader.proofs.Uniques.{one, lawful_of}
 use Rattle.reader.proofs.Answering.{declaration_law}
 use Rattle.limits.proofs.Firsts.{first_unique, first_not_nowhere}
 use Rattle.limits.specs.declared.tally.Survey.{Survey}
@@ -23,13 +25,10 @@ module _ (c : Told) where
   no_day d h k = cc
 
   length_clash : right_length c.upload ≡ false → right_length c.upload ≡ true → ⊥
-  length_clash h k = true≢false (sym k ∙ h)
+  length_clash h k = cc
 
   lawful_clash : (r : Refusal) → Lawful c.upload → Law c.upload (Err r) → ⊥
-  lawful_clash r l h = apart (one c.upload (Ok (tt {0})) (Err r) (lawfully l) h)
-    where
-      apart : ◌≡◌ {A = Result (Unit {0}) Refusal} (Ok (tt {0})) (Err r) → ⊥
-      apart e = cc
+  lawful_clash r l h = let e = one c.upload (Ok (tt {0})) (Err r) (lawfully l) h in cc
 
   same : (r q : Refusal) → Law c.upload (Err r) → Law c.upload (Err q) → r ≡ q
   same r q h k = let e = one c.upload (Err r) (Err q) h k in cc
@@ -101,26 +100,45 @@ space_in_declaration c d w s e =
 
 -- ---- what the passes say
 
+pub no_day_told : {c : Told} {o : Option Day} {r : Refusal} → option_map date_of o ≡ right_day c → o ≡ None → ◌≡◌ {A = Result Day Refusal} (Err r) (ok_or o Call) → Answer c (Err r)
+no_day_told {c} {o} {r} h n e =
+    let same : r ≡ Call = cc in
+    subst (λ (q : Refusal). Answer c (Err q)) (sym same) (wrong_call (sym h ∙ ap (option_map date_of) n))
+
+pub told_day : {t : Option Date} {o : Option Day} {d : Day} → option_map date_of o ≡ t → o ≡ Some d → t ≡ Some (date_of d)
+told_day h e = sym h ∙ ap (option_map date_of) e
+
 pub record Surveyed (u sender : List ℕ) (s : Survey) : Type 0 where
   pub records : (l : Lawful u) → s.records ≡ records_in (items_of l)
   pub beyond : (l : Lawful u) → MatchOption s.beyond (NoneBeyond (items_of l)) (FirstBeyond (items_of l))
   pub foreign : (l : Lawful u) → MatchOption s.foreign (NoneForeign sender (items_of l)) (FirstForeign sender (items_of l))
 
-pub same_upload : {u v sender : List ℕ} {s : Survey} → u ≡ v → Surveyed u sender s → Surveyed v sender s
-same_upload {sender = x} {s} e h = subst (λ (w : List ℕ). Surveyed w x s) e h
+-- the call is right, its upload is lawful, and s is what was found in it
+pub record Seen (c : Told) (d : Date) (s : Survey) : Type 0 where
+  pub sound : Sound c d
+  pub lawful : Lawful c.upload
+  pub survey : Surveyed c.upload c.sender s
 
-module _ (c : Told) (d : Date) (s : Survey) (sound : Sound c d) (l : Lawful c.upload) (v : Surveyed c.upload c.sender s) where
-  pub beyond_limits : (k : ℕ) → s.beyond ≡ Some k → Answer c (Err (TooMany k))
-  beyond_limits k e = too_many sound l (λ m. MatchOption-at_some (NoneBeyond (items_of m)) _ k e (v.beyond m))
+pub seen : (c : Told) {o : Option Day} {d : Day} {s : Survey} {u : List ℕ} → option_map date_of o ≡ right_day c → o ≡ Some d → true ≡ right_length c.upload → Law c.upload (Ok (tt {0})) → u ≡ c.upload → Surveyed u c.sender s → Seen c (date_of d) s
+seen c {s} h e l w q v =
+    record {
+      sound = record { day = told_day h e; length = sym l };
+      lawful = lawful_of w;
+      survey = subst (λ (u : List ℕ). Surveyed u c.sender s) q v;
+    }
+
+module _ {c : Told} {d : Date} {s : Survey} (h : Seen c d s) where
+  pub beyond_limits : {k : ℕ} → s.beyond ≡ Some k → Answer c (Err (TooMany k))
+  beyond_limits {k} e = too_many h.sound h.lawful (λ m. MatchOption-at_some (NoneBeyond (items_of m)) _ k e (h.survey.beyond m))
 
   module _ (none : s.beyond ≡ None) where
     within : Within c.upload
-    within = record { lawful = l; limits = λ m. MatchOption-at_none _ (FirstBeyond (items_of m)) none (v.beyond m) }
+    within = record { lawful = h.lawful; limits = λ m. MatchOption-at_none _ (FirstBeyond (items_of m)) none (h.survey.beyond m) }
 
-    pub foreign_sender : (k : ℕ) → s.foreign ≡ Some k → Answer c (Err (Foreign k))
-    foreign_sender k e = foreign sound within (λ m. MatchOption-at_some (NoneForeign c.sender (items_of m)) _ k e (v.foreign m))
+    pub foreign_sender : {k : ℕ} → s.foreign ≡ Some k → Answer c (Err (Foreign k))
+    foreign_sender {k} e = foreign h.sound within (λ m. MatchOption-at_some (NoneForeign c.sender (items_of m)) _ k e (h.survey.foreign m))
 
-    pub all_right : (w : List ℕ) → w ≡ c.upload → s.foreign ≡ None → Answer c (Ok (record { upload = w; sender = c.sender; day = d; records = s.records }))
-    all_right w q e =
+    pub all_right : {w : List ℕ} → w ≡ c.upload → s.foreign ≡ None → Answer c (Ok (record { upload = w; sender = c.sender; day = d; records = s.records }))
+    all_right q e =
         subst (λ (u : List ℕ). Answer c (Ok (record { upload = u; sender = c.sender; day = d; records = s.records }))) (sym q)
-        (taken sound within (λ m. MatchOption-at_none _ (FirstForeign c.sender (items_of m)) e (v.foreign m)) v.records)
+        (taken h.sound within (λ m. MatchOption-at_none _ (FirstForeign c.sender (items_of m)) e (h.survey.foreign m)) h.survey.records)

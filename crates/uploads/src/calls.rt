@@ -1,4 +1,5 @@
 // What the relay hands over.
+use limits::tally::MOST_RECORDS;
 
 // Lent for one call.
 #[derive(Clone, Copy)]
@@ -12,7 +13,7 @@ pub struct Call<'a> {
 }
 
 // A call lends at least so many verdict rows: as many as an upload may have records.
-pub const LEAST_ROWS: usize = 4096;
+pub const LEAST_ROWS: usize = MOST_RECORDS;
 
 // The greatest length of an upload.
 pub const MOST_BYTES: usize = 1048576;

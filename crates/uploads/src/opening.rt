@@ -15,12 +15,11 @@ use limits::survey::survey;
 use reader::faults::Refusal;
 use reader::structure::check_structure;
 
+// The right answer to a call. That no other is right is shown of it once, in `open`.
 fn answer<'a>(call: Call<'a>) -> Result<Upload<'a>, Refusal>
     ensures { Answer (call_of call.entry) (taken_of result) }
 {
-    let Some(day) = day_of(call) else {
-        return Err(Refusal::Call);
-    };
+    let day = day_of(call).ok_or(Refusal::Call)?;
     if !has_right_length(call.upload) {
         return Err(Refusal::Length);
     }
@@ -40,7 +39,7 @@ fn answer<'a>(call: Call<'a>) -> Result<Upload<'a>, Refusal>
     })
 }
 
-// Takes an upload, or refuses it whole: the right one of the two, with the right number, cause and place.
+// Takes an upload, or refuses it whole: the right one of the two, with the right refusal. No other answer is right.
 pub fn open<'a>(call: Call<'a>) -> Result<Upload<'a>, Refusal>
     ensures law { Answered (call_of call.entry) (taken_of result) }
     ensures sample { SpaceInDeclaration }

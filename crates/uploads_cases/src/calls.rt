@@ -1,6 +1,8 @@
 // Wrong calls and right ones, and which of several faults is told.
-use crate::files::{Answer, DAY, DECLARATION, SENDER, answer_to, gives};
+use crate::files::{Answer, DECLARATION, RIGHT_CALL, answer_to, gives};
 use calendar::day::Day;
+use reader::faults::Cause::{ClosingId, Elsewhere, Value};
+use reader::faults::Refusal::{self, CutShort, Declaration, Length, NoHeader, NoVisit, Unlawful};
 use std::process::Abort;
 use std::test::Fail;
 use uploads::calls::Call;
@@ -88,74 +90,161 @@ const RIGHT_DAYS: [(&[u8], u16, u8, u8); 12] = [
 // Uploads, without their declaration, that have several faults or seem to, and what becomes of them in a right call.
 const FAULTS: [(&[u8], Answer); 20] = [
     // a foreign sender, and cut short, wrong, or with a tag in another's place
-    (b"<RECS><REC><MSH><M05>9999999999</M05>", (6, 0, 74)),
-    (b"<RECS><REC><MSH><M05>9999999999", (6, 0, 68)),
+    (
+        b"<RECS><REC><MSH><M05>9999999999</M05>",
+        Err(CutShort { place: 74 }),
+    ),
+    (
+        b"<RECS><REC><MSH><M05>9999999999",
+        Err(CutShort { place: 68 }),
+    ),
     (
         b"<RECS><REC><MSH><M05>9999999999</M05></MSH><MB><MB1></MB1></MB></REC></RECS",
-        (6, 0, 112),
+        Err(CutShort { place: 112 }),
     ),
     (
         b"<RECS><REC><MSH><M05>9999999999</M05></MSH><MB><MB1></MB1></MB></REC></RECS>x",
-        (3, 3, 113),
+        Err(Unlawful {
+            cause: Elsewhere,
+            place: 113,
+        }),
     ),
-    (b"<RECS><REC><MSH><M05>9999999999</M06>", (3, 2, 72)),
+    (
+        b"<RECS><REC><MSH><M05>9999999999</M06>",
+        Err(Unlawful {
+            cause: ClosingId,
+            place: 72,
+        }),
+    ),
     (
         b"<RECS><REC><MSH><M05>9999999999</M05></MSH><MSH>",
-        (3, 3, 82),
+        Err(Unlawful {
+            cause: Elsewhere,
+            place: 82,
+        }),
     ),
     (
         b"<RECS><REC><MSH><M05>9999999999</M05></MSH><MB><MB2>",
-        (5, 0, 84),
+        Err(NoVisit { place: 84 }),
     ),
-    (b"<RECS><REC><MSH><M05>999999999\xff", (3, 1, 67)),
+    (
+        b"<RECS><REC><MSH><M05>999999999\xff",
+        Err(Unlawful {
+            cause: Value,
+            place: 67,
+        }),
+    ),
     // several faults of the structure
-    (b"<RECS><REC><MB></MB></REC><REC><REC>", (4, 0, 48)),
-    (b"<RECS><REC><MB1></MB1></MSH>\x00", (4, 0, 48)),
-    (b"<RECS><REC></REC></RECS>", (4, 0, 48)),
+    (
+        b"<RECS><REC><MB></MB></REC><REC><REC>",
+        Err(NoHeader { place: 48 }),
+    ),
+    (
+        b"<RECS><REC><MB1></MB1></MSH>\x00",
+        Err(NoHeader { place: 48 }),
+    ),
+    (b"<RECS><REC></REC></RECS>", Err(NoHeader { place: 48 })),
     (
         b"<RECS><REC><MSH></MSH><MB><MB2></MB2></MB></REC><REC><MB>",
-        (5, 0, 63),
+        Err(NoVisit { place: 63 }),
     ),
     (
         b"<RECS><REC><MSH></MSH><MB></MB></REC><REC></REC>",
-        (5, 0, 63),
+        Err(NoVisit { place: 63 }),
     ),
-    (b"<RECS><REC><MSH>\x00</MSH><MB><MB2>", (3, 3, 53)),
-    (b"<RECS>\x00<REC><MB>", (3, 3, 43)),
-    (b"<RECS><REC><MSH><M01>\xff</M02>", (3, 1, 58)),
-    (b"<RECS><REC><MSH><M01></M02>\xff", (3, 2, 62)),
-    (b"\x00<RECS", (3, 3, 37)),
+    (
+        b"<RECS><REC><MSH>\x00</MSH><MB><MB2>",
+        Err(Unlawful {
+            cause: Elsewhere,
+            place: 53,
+        }),
+    ),
+    (
+        b"<RECS>\x00<REC><MB>",
+        Err(Unlawful {
+            cause: Elsewhere,
+            place: 43,
+        }),
+    ),
+    (
+        b"<RECS><REC><MSH><M01>\xff</M02>",
+        Err(Unlawful {
+            cause: Value,
+            place: 58,
+        }),
+    ),
+    (
+        b"<RECS><REC><MSH><M01></M02>\xff",
+        Err(Unlawful {
+            cause: ClosingId,
+            place: 62,
+        }),
+    ),
+    (
+        b"\x00<RECS",
+        Err(Unlawful {
+            cause: Elsewhere,
+            place: 37,
+        }),
+    ),
     // none
-    (b" <RECS> </RECS> ", (0, 0, 0)),
+    (b" <RECS> </RECS> ", Ok(0)),
     (
         b"<RECS><REC><MSH></MSH><MB><MB1></MB1></MB></REC></RECS>",
-        (0, 0, 1),
+        Ok(1),
     ),
 ];
 
 // Whole uploads that are wrong in the declaration or have no byte.
 const UNDECLARED: [(&[u8], Answer); 18] = [
-    (b"", (1, 0, 0)),
-    (b" ", (2, 0, 0)),
-    (b"x", (2, 0, 0)),
-    (b"\x00", (2, 0, 0)),
-    (b"<", (2, 0, 1)),
-    (b"<RECS></RECS>", (2, 0, 1)),
-    (b"<!", (2, 0, 1)),
-    (b"<?xml version='1.0' encoding='Big5'?>", (2, 0, 14)),
-    (b"<?xml version=\"1.1\" encoding=\"Big5\"?>", (2, 0, 17)),
-    (b"<?xml version=\"1.0\" encoding=\"big5\"?>", (2, 0, 30)),
-    (b"<?xml version=\"1.0\" encoding=\"UTF-8\"?>", (2, 0, 30)),
-    (b"<?xml version=\"1.0\"?>", (2, 0, 19)),
-    (b"<?xml version=\"1.0\" encoding=\"Big5\" ?>", (2, 0, 35)),
-    (b"<?xml version=\"1.0\" encoding=\"Big5\"?", (2, 0, 36)),
-    (b"<?xml version=\"1.0\" encoding=\"Big5\"?x", (2, 0, 36)),
-    (b"<?XML version=\"1.0\" encoding=\"Big5\"?>", (2, 0, 2)),
+    (b"", Err(Length)),
+    (b" ", Err(Declaration { place: 0 })),
+    (b"x", Err(Declaration { place: 0 })),
+    (b"\x00", Err(Declaration { place: 0 })),
+    (b"<", Err(Declaration { place: 1 })),
+    (b"<RECS></RECS>", Err(Declaration { place: 1 })),
+    (b"<!", Err(Declaration { place: 1 })),
+    (
+        b"<?xml version='1.0' encoding='Big5'?>",
+        Err(Declaration { place: 14 }),
+    ),
+    (
+        b"<?xml version=\"1.1\" encoding=\"Big5\"?>",
+        Err(Declaration { place: 17 }),
+    ),
+    (
+        b"<?xml version=\"1.0\" encoding=\"big5\"?>",
+        Err(Declaration { place: 30 }),
+    ),
+    (
+        b"<?xml version=\"1.0\" encoding=\"UTF-8\"?>",
+        Err(Declaration { place: 30 }),
+    ),
+    (b"<?xml version=\"1.0\"?>", Err(Declaration { place: 19 })),
+    (
+        b"<?xml version=\"1.0\" encoding=\"Big5\" ?>",
+        Err(Declaration { place: 35 }),
+    ),
+    (
+        b"<?xml version=\"1.0\" encoding=\"Big5\"?",
+        Err(Declaration { place: 36 }),
+    ),
+    (
+        b"<?xml version=\"1.0\" encoding=\"Big5\"?x",
+        Err(Declaration { place: 36 }),
+    ),
+    (
+        b"<?XML version=\"1.0\" encoding=\"Big5\"?>",
+        Err(Declaration { place: 2 }),
+    ),
     (
         b"\xef\xbb\xbf<?xml version=\"1.0\" encoding=\"Big5\"?>",
-        (2, 0, 0),
+        Err(Declaration { place: 0 }),
     ),
-    (b"<?xml version=\"1.0\" encoding=\"Big5\"?>", (6, 0, 37)),
+    (
+        b"<?xml version=\"1.0\" encoding=\"Big5\"?>",
+        Err(CutShort { place: 37 }),
+    ),
 ];
 
 // Uploads that a wrong call hands over: lawful, empty, wrong, cut short and with a foreign sender.
@@ -168,38 +257,54 @@ const HANDED: [&[u8]; 5] = [
 ];
 
 // A wrong call is refused whatever it hands over.
-fn is_wrong(rt: &impl Abort, sender: &[u8], day: &[u8], rows: usize) {
+fn is_wrong(rt: &impl Abort, call: Call) {
+    let Call {
+        sender,
+        day,
+        rows,
+        ..
+    } = call;
     for upload in &HANDED {
-        let call = Call {
-            sender,
-            day,
-            upload,
-            rows,
-        };
-        assert_eq!(rt; answer_to(call), (9, 0, 0), "{sender:?} {day:?} {rows}");
+        let answer = answer_to(Call { upload, ..call });
+        assert_eq!(rt; answer, Err(Refusal::Call), "{sender:?} {day:?} {rows}");
     }
 }
 
 #[test]
 fn wrong_calls(rt: HostRuntime) {
     for sender in &WRONG_SENDERS {
-        is_wrong(&rt, sender, &DAY, 4096);
+        is_wrong(
+            &rt,
+            Call {
+                sender,
+                ..RIGHT_CALL
+            },
+        );
     }
     for day in &WRONG_DAYS {
-        is_wrong(&rt, &SENDER, day, 4096);
+        is_wrong(&rt, Call { day, ..RIGHT_CALL });
     }
     for rows in [0, 1, 999, 4095] {
-        is_wrong(&rt, &SENDER, &DAY, rows);
+        is_wrong(&rt, Call { rows, ..RIGHT_CALL });
     }
-    is_wrong(&rt, b"", b"", 0);
-    is_wrong(&rt, &DAY, &SENDER, 4096);
+    let empty = Call {
+        sender: b"",
+        day: b"",
+        rows: 0,
+        ..RIGHT_CALL
+    };
+    is_wrong(&rt, empty);
+    let exchanged = Call {
+        sender: RIGHT_CALL.day,
+        day: RIGHT_CALL.sender,
+        ..RIGHT_CALL
+    };
+    is_wrong(&rt, exchanged);
 }
 
 // What is taken comes with its bytes, its sender and its receipt day.
 fn is_right(rt: &impl Abort, call: Call, day: Option<Day>) -> Result<(), Fail> {
-    let Ok(upload) = open(call) else {
-        return Err(Fail::new("refused"));
-    };
+    let upload = open(call)?;
     assert_eq!(rt; upload.file.bytes, call.upload);
     assert_eq!(rt; upload.sender, call.sender);
     assert_eq!(rt; Some(upload.day), day);
@@ -209,13 +314,14 @@ fn is_right(rt: &impl Abort, call: Call, day: Option<Day>) -> Result<(), Fail> {
 
 #[test]
 fn right_calls(rt: HostRuntime) -> Result<(), Fail> {
+    let upload = HANDED[0];
     for sender in &RIGHT_SENDERS {
         for (day, year, month, number) in &RIGHT_DAYS {
             for rows in [4096, 4097, 18446744073709551615] {
                 let call = Call {
                     sender,
                     day,
-                    upload: HANDED[0],
+                    upload,
                     rows,
                 };
                 is_right(&rt, call, Day::new(*year, *month, *number))?;
@@ -228,10 +334,10 @@ fn right_calls(rt: HostRuntime) -> Result<(), Fail> {
 #[test]
 fn several_faults(rt: HostRuntime) -> Result<(), Fail> {
     for (text, answer) in &FAULTS {
-        gives(&rt, rt.alloc(), &DECLARATION, text, *answer)?;
+        gives(&rt, &[DECLARATION, text], *answer)?;
     }
     for (upload, answer) in &UNDECLARED {
-        gives(&rt, rt.alloc(), upload, b"", *answer)?;
+        gives(&rt, &[upload], *answer)?;
     }
     Ok(())
 }

@@ -1,6 +1,6 @@
 // Values: every byte alone, and every two bytes of a pair.
-use crate::files::{Answer, breaks, cut_short, declared, followed, gives, taken, unlawful};
-use std::alloc::Global;
+use crate::files::{DECLARATION, breaks, cut_short, gives, unlawful};
+use reader::faults::Cause::{Elsewhere, Value};
 use std::process::Abort;
 use std::test::Fail;
 
@@ -25,6 +25,7 @@ const AROUND: [(&[u8], &[u8]); 3] = [
 //     p  the first of a pair
 //     <  the start of the closing tag
 //     !  wrong
+// The classes stay characters: they are drawn in rows, and an enum of them would only say this list again.
 const FIRST: [[u8; 16]; 16] = [
     *b"!!!!!!!!!!!!!!!!",
     *b"!!!!!!!!!!!!!!!!",
@@ -122,76 +123,54 @@ const WHOLE: [&[u8]; 14] = [
     b"\xb3\x5c\xa5\xc0a\xae\x7a1",
 ];
 
-// The answer to a byte at the start of a character, where `pair` is the answer if it is the first of a pair.
-fn first_answer(class: u8, place: usize, alone: Answer, pair: Answer) -> Answer {
-    match class {
-        b'a' => alone,
-        b'p' => pair,
-        b'<' => unlawful(3, place.wrapping_add(1)),
-        _ => unlawful(1, place),
-    }
-}
-
 // A byte behind a whole character of a value: at the end of the upload, before a tag and before a letter.
 fn byte_stands(
-    rt: &impl Abort,
-    alloc: Global,
+    rt: &(impl Abort + AllocGlobal),
     before: &[u8],
     byte: u8,
     after: &[u8],
 ) -> Result<(), Fail> {
     let class = FIRST[(byte / 16) as usize][(byte % 16) as usize];
     let place = before.len();
-    let upload = followed(alloc, before, &[byte])?;
-    let short = match class {
-        b'!' => unlawful(1, place),
-        _ => cut_short(upload.len()),
+    let ended = cut_short(place + 1);
+    let wrong = unlawful(Value, place);
+    let half = unlawful(Value, place + 1);
+    let tag = unlawful(Elsewhere, place + 1);
+    let (at_end, before_tag, before_letter) = match class {
+        b'a' => (ended, Ok(1), Ok(1)),
+        b'p' => (ended, half, Ok(1)),
+        b'<' => (ended, tag, tag),
+        _ => (wrong, wrong, wrong),
     };
-    gives(rt, alloc, upload.as_slice(), b"", short)?;
-    let half = unlawful(1, upload.len());
-    gives(
-        rt,
-        alloc,
-        upload.as_slice(),
-        after,
-        first_answer(class, place, taken(1), half),
-    )?;
-    let letter = followed(alloc, upload.as_slice(), b"A")?;
-    gives(
-        rt,
-        alloc,
-        letter.as_slice(),
-        after,
-        first_answer(class, place, taken(1), taken(1)),
-    )
+    gives(rt, &[before, &[byte]], at_end)?;
+    gives(rt, &[before, &[byte], after], before_tag)?;
+    gives(rt, &[before, &[byte], b"A", after], before_letter)
 }
 
 // Two bytes in a value, the first of which begins a pair: at the end of the upload, and before a tag.
 fn pair_stands(
-    rt: &impl Abort,
-    alloc: Global,
+    rt: &(impl Abort + AllocGlobal),
     before: &[u8],
-    first: u8,
-    second: u8,
+    pair: [u8; 2],
     after: &[u8],
 ) -> Result<(), Fail> {
-    let class = SECOND[(second / 16) as usize][(second % 16) as usize];
-    let place = before.len().wrapping_add(1);
-    let upload = followed(alloc, before, &[first, second])?;
-    let (short, whole) = match class {
-        b'b' => (cut_short(upload.len()), taken(1)),
-        _ => (unlawful(1, place), unlawful(1, place)),
+    let place = before.len() + 1;
+    let wrong = unlawful(Value, place);
+    let [_, second] = pair;
+    let (at_end, before_tag) = match SECOND[(second / 16) as usize][(second % 16) as usize] {
+        b'b' => (cut_short(place + 1), Ok(1)),
+        _ => (wrong, wrong),
     };
-    gives(rt, alloc, upload.as_slice(), b"", short)?;
-    gives(rt, alloc, upload.as_slice(), after, whole)
+    gives(rt, &[before, &pair], at_end)?;
+    gives(rt, &[before, &pair, after], before_tag)
 }
 
 #[test]
 fn every_byte(rt: HostRuntime) -> Result<(), Fail> {
     for (before, after) in &AROUND {
-        let upload = declared(rt.alloc(), before, b"x")?;
+        let before = [DECLARATION, before, b"x"].concat(rt.alloc())?;
         for byte in 0..=255u8 {
-            byte_stands(&rt, rt.alloc(), upload.as_slice(), byte, after)?;
+            byte_stands(&rt, before.as_slice(), byte, after)?;
         }
     }
     Ok(())
@@ -200,10 +179,10 @@ fn every_byte(rt: HostRuntime) -> Result<(), Fail> {
 #[test]
 fn every_pair(rt: HostRuntime) -> Result<(), Fail> {
     let (before, after) = AROUND[0];
-    let upload = declared(rt.alloc(), before, b"")?;
+    let before = [DECLARATION, before].concat(rt.alloc())?;
     for first in 0x81..=0xfeu8 {
         for second in 0..=255u8 {
-            pair_stands(&rt, rt.alloc(), upload.as_slice(), first, second, after)?;
+            pair_stands(&rt, before.as_slice(), [first, second], after)?;
         }
     }
     Ok(())
@@ -212,12 +191,12 @@ fn every_pair(rt: HostRuntime) -> Result<(), Fail> {
 #[test]
 fn halves_of_pairs(rt: HostRuntime) -> Result<(), Fail> {
     for (before, after) in &AROUND {
+        let declared = [DECLARATION, before].concat(rt.alloc())?;
         for (text, wrong) in &HALVES {
-            breaks(&rt, rt.alloc(), before, text, *wrong, 1)?;
+            breaks(&rt, declared.as_slice(), text, *wrong, Value)?;
         }
         for value in &WHOLE {
-            let upload = declared(rt.alloc(), before, value)?;
-            gives(&rt, rt.alloc(), upload.as_slice(), after, taken(1))?;
+            gives(&rt, &[DECLARATION, before, value, after], Ok(1))?;
         }
     }
     Ok(())

@@ -12,6 +12,8 @@ mod fields;
 #[cfg(test)]
 mod files;
 #[cfg(test)]
+mod numbers;
+#[cfg(test)]
 mod senders;
 #[cfg(test)]
 mod small;

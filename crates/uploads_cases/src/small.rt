@@ -1,13 +1,12 @@
 // One small upload, cut at every byte and with a byte more at every place.
-ghost use Rattle.std.specs.Prelude.{◌≤◌, length};
-
-use crate::files::{Answer, cut_short, joined, misdeclared, opened, taken, unlawful};
+use crate::files::{Answer, DECLARATION, cut_short, opened, unlawful};
+use reader::faults::Cause::{ClosingId, Elsewhere, Value};
+use reader::faults::Refusal::{Declaration, Foreign, Length};
 use std::alloc::{AllocError, Global};
-use std::process::Abort;
 use std::test::Fail;
 
-// The upload, of two records, piece by piece. The mark below each of its bytes says what becomes of it if one white byte more
-// stands before that byte; white is space, tab, CR or LF.
+// The upload, of two records, piece by piece. The mark below each of its bytes says what becomes of it if one white byte
+// more stands before that byte; white is space, tab, CR or LF.
 //     .  it stays lawful
 //     d  the declaration is wrong at the white byte
 //     s  so it is, but a space passes for the one that stands there, and the byte after it is wrong
@@ -16,6 +15,7 @@ use std::test::Fail;
 //     v  in a value: a space is a character of it, all others are unlawful with cause 1
 //     m  in a value of M05: as v, but a space makes the sender foreign, at the first byte of the value
 //     p  in the midst of a pair: unlawful with cause 1
+// The marks stay letters: they are drawn below the bytes, and an enum of them would only say this list again.
 const PIECES: [(&[u8], &[u8]); 47] = [
     (
         b"<?xml version=\"1.0\" encoding=\"Big5\"?>",
@@ -70,19 +70,19 @@ const PIECES: [(&[u8], &[u8]); 47] = [
 ];
 
 fn upload(alloc: Global) -> Result<Vec<u8>, AllocError> {
-    let mut bytes = Vec::new(alloc);
-    for (piece, _) in &PIECES {
-        bytes.extend_from_slice(piece)?;
-    }
-    Ok(bytes)
+    PIECES
+        .iter()
+        .flat_map(|(piece, _)| *piece)
+        .copied()
+        .collect(alloc)
 }
 
 fn marks(alloc: Global) -> Result<Vec<u8>, AllocError> {
-    let mut bytes = Vec::new(alloc);
-    for (_, marks) in &PIECES {
-        bytes.extend_from_slice(marks)?;
-    }
-    Ok(bytes)
+    PIECES
+        .iter()
+        .flat_map(|(_, marks)| *marks)
+        .copied()
+        .collect(alloc)
 }
 
 // The upload with all four white bytes more wherever they may stand.
@@ -97,49 +97,60 @@ fn spread(alloc: Global) -> Result<Vec<u8>, AllocError> {
     Ok(bytes)
 }
 
-// With one byte more at the place.
-fn with_byte(alloc: Global, bytes: &[u8], place: usize, byte: u8) -> Result<Vec<u8>, AllocError>
-    requires { place ≤ length bytes.now }
-{
-    let (before, after) = bytes.split_at(place);
-    joined(alloc, &[before, &[byte], after])
+// Where one byte more goes in.
+#[derive(Clone, Copy)]
+struct Gap<'a> {
+    before: &'a [u8],
+    after: &'a [u8],
+    // the mark of the byte behind it
+    mark: u8,
+    // where the value around it begins
+    value: usize,
 }
 
-// The answer to a white byte more, where the value around the place begins at `first`.
-fn white_answer(mark: u8, byte: u8, place: usize, first: usize) -> Answer {
-    match (mark, byte) {
-        (b'd', _) => misdeclared(place),
-        (b's', b' ') => misdeclared(place.wrapping_add(1)),
-        (b's', _) => misdeclared(place),
-        (b'-', _) => unlawful(3, place),
-        (b'i', _) => unlawful(2, place),
-        (b'v', b' ') => taken(2),
-        (b'm', b' ') => (7, 0, first),
-        (b'v' | b'm' | b'p', _) => unlawful(1, place),
-        _ => taken(2),
+impl Gap<'_> {
+    // The upload with the byte.
+    fn filled(self, alloc: Global, byte: u8) -> Result<Vec<u8>, AllocError> {
+        [self.before, &[byte], self.after].concat(alloc)
     }
-}
 
-// The answer to a byte more that may stand nowhere.
-fn strange_answer(mark: u8, place: usize) -> Answer {
-    match mark {
-        b'd' | b's' => misdeclared(place),
-        b'i' => unlawful(2, place),
-        b'v' | b'm' | b'p' => unlawful(1, place),
-        _ => unlawful(3, place),
+    // The answer to a white byte.
+    fn white_answer(self, byte: u8) -> Answer {
+        let place = self.before.len();
+        match (self.mark, byte) {
+            (b's', b' ') => Err(Declaration { place: place + 1 }),
+            (b'd' | b's', _) => Err(Declaration { place }),
+            (b'-', _) => unlawful(Elsewhere, place),
+            (b'i', _) => unlawful(ClosingId, place),
+            (b'v', b' ') => Ok(2),
+            (b'm', b' ') => Err(Foreign { place: self.value }),
+            (b'v' | b'm' | b'p', _) => unlawful(Value, place),
+            _ => Ok(2),
+        }
+    }
+
+    // The answer to a byte that may stand nowhere.
+    fn strange_answer(self) -> Answer {
+        let place = self.before.len();
+        match self.mark {
+            b'd' | b's' => Err(Declaration { place }),
+            b'i' => unlawful(ClosingId, place),
+            b'v' | b'm' | b'p' => unlawful(Value, place),
+            _ => unlawful(Elsewhere, place),
+        }
     }
 }
 
 // Empty; within the declaration; from there to the last byte of </RECS>, which stands before two white ones; whole.
 fn cut_answer(length: usize, whole: usize) -> Answer {
     if length == 0 {
-        (1, 0, 0)
-    } else if length < 37 {
-        misdeclared(length)
+        Err(Length)
+    } else if length < DECLARATION.len() {
+        Err(Declaration { place: length })
     } else if length < whole.saturating_sub(2) {
         cut_short(length)
     } else {
-        taken(2)
+        Ok(2)
     }
 }
 
@@ -154,58 +165,43 @@ fn cut_at_every_byte(rt: HostRuntime) -> Result<(), Fail> {
     Ok(())
 }
 
-// Each white byte more, before the byte with the mark.
-fn white_stands(
-    rt: &impl Abort,
-    alloc: Global,
-    bytes: &[u8],
-    place: usize,
-    mark: u8,
-    first: usize,
-) -> Result<(), Fail>
-    requires { place ≤ length bytes.now }
-{
-    for byte in b" \t\r\n" {
-        let upload = with_byte(alloc, bytes, place, *byte)?;
-        let answer = white_answer(mark, *byte, place, first);
-        assert_eq!(rt; opened(upload.as_slice()), answer, "{byte} at {place}");
-    }
-    Ok(())
-}
-
-// Each of some bytes that may stand nowhere, not even in a pair, before the byte with the mark.
-fn strange_stands(
-    rt: &impl Abort,
-    alloc: Global,
-    bytes: &[u8],
-    place: usize,
-    mark: u8,
-) -> Result<(), Fail>
-    requires { place ≤ length bytes.now }
-{
-    for byte in b"\x00\x1f\x7f\x80\xff" {
-        let upload = with_byte(alloc, bytes, place, *byte)?;
-        let answer = strange_answer(mark, place);
-        assert_eq!(rt; opened(upload.as_slice()), answer, "{byte} at {place}");
-    }
-    Ok(())
-}
-
+// White bytes, and some that may stand nowhere, not even in a pair.
 #[test]
 fn one_byte_more(rt: HostRuntime) -> Result<(), Fail> {
     let bytes = upload(rt.alloc())?;
     let marks = marks(rt.alloc())?;
     assert_eq!(rt; marks.len(), bytes.len());
-    let mut first = 0;
+    let mut value = 0;
     for place in 0..=bytes.len() {
+        let (before, after) = bytes.as_slice().split_at(place);
         let mark = marks.get(place).copied().unwrap_or(b'.');
         if mark != b'm' {
-            first = place.wrapping_add(1);
+            value = place + 1;
         }
-        white_stands(&rt, rt.alloc(), bytes.as_slice(), place, mark, first)?;
-        strange_stands(&rt, rt.alloc(), bytes.as_slice(), place, mark)?;
+        let gap = Gap {
+            before,
+            after,
+            mark,
+            value,
+        };
+        for byte in b" \t\r\n" {
+            let upload = gap.filled(rt.alloc(), *byte)?;
+            assert_eq!(rt;
+                opened(upload.as_slice()),
+                gap.white_answer(*byte),
+                "{byte} at {place}"
+            );
+        }
+        for byte in b"\x00\x1f\x7f\x80\xff" {
+            let upload = gap.filled(rt.alloc(), *byte)?;
+            assert_eq!(rt;
+                opened(upload.as_slice()),
+                gap.strange_answer(),
+                "{byte} at {place}"
+            );
+        }
     }
     let upload = spread(rt.alloc())?;
-    assert_eq!(rt; opened(upload.as_slice()), taken(2), "white everywhere");
+    assert_eq!(rt; opened(upload.as_slice()), Ok(2), "white everywhere");
     Ok(())
 }

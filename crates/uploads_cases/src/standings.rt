@@ -1,6 +1,7 @@
 // The twelve tags of the structure where they must not stand.
-use crate::files::{breaks, cut_short, declared, followed, gives, unlawful};
-use std::alloc::Global;
+use crate::files::{DECLARATION, breaks, cut_short, gives, unlawful};
+use reader::faults::Cause::{self, ClosingId, Elsewhere, Value};
+use reader::faults::Refusal::{self, NoHeader, NoVisit};
 use std::process::Abort;
 use std::test::Fail;
 
@@ -9,146 +10,95 @@ const TAGS: [&[u8]; 12] = [
     b"</MB>", b"</MB1>", b"</MB2>",
 ];
 
-// In the place of a tag's first wrong byte, where the tag is right.
-const RIGHT: usize = 9;
+// White bytes between two tags, which change nothing.
+const WHITE: [&[u8]; 4] = [b"", b" ", b"\t", b"\r\n\n "];
 
-// What stands before, and for each tag in the order above the first of its bytes with which no lawful upload goes on.
-const OUTSIDE: [(&[u8], [usize; 12]); 16] = [
+// What stands before, and a mark for each tag in the order above: the first of its bytes with which no lawful upload goes
+// on, or a point where the tag is right.
+const OUTSIDE: [(&[u8], &[u8; 12]); 16] = [
     // <RECS>
-    (b"", [RIGHT, 4, 1, 1, 1, 1, 1, 1, 1, 1, 1, 1]),
+    (b"", b".41111111111"),
     // <REC> or </RECS>
-    (b"<RECS>", [4, RIGHT, 1, 1, 1, 1, RIGHT, 5, 2, 2, 2, 2]),
+    (b"<RECS>", b"4.1111.52222"),
     (
         b"<RECS><REC><MSH></MSH><MB><MB1></MB1></MB></REC>",
-        [4, RIGHT, 1, 1, 1, 1, RIGHT, 5, 2, 2, 2, 2],
+        b"4.1111.52222",
     ),
     // a field or </MSH>
-    (
-        b"<RECS><REC><MSH>",
-        [2, 2, 2, 2, 2, 2, 2, 2, RIGHT, 3, 3, 3],
-    ),
-    (
-        b"<RECS><REC><MSH><M01>x</M01>",
-        [2, 2, 2, 2, 2, 2, 2, 2, RIGHT, 3, 3, 3],
-    ),
+    (b"<RECS><REC><MSH>", b"22222222.333"),
+    (b"<RECS><REC><MSH><M01>x</M01>", b"22222222.333"),
     // <MB>
-    (
-        b"<RECS><REC><MSH></MSH>",
-        [1, 1, 2, RIGHT, 3, 3, 1, 1, 1, 1, 1, 1],
-    ),
-    (
-        b"<RECS><REC><MSH><M01>x</M01></MSH>",
-        [1, 1, 2, RIGHT, 3, 3, 1, 1, 1, 1, 1, 1],
-    ),
+    (b"<RECS><REC><MSH></MSH>", b"112.33111111"),
+    (b"<RECS><REC><MSH><M01>x</M01></MSH>", b"112.33111111"),
     // a field or </MB1>
-    (
-        b"<RECS><REC><MSH></MSH><MB><MB1>",
-        [2, 2, 2, 2, 2, 2, 2, 2, 3, 4, RIGHT, 4],
-    ),
+    (b"<RECS><REC><MSH></MSH><MB><MB1>", b"2222222234.4"),
     (
         b"<RECS><REC><MSH></MSH><MB><MB1><M01></M01>",
-        [2, 2, 2, 2, 2, 2, 2, 2, 3, 4, RIGHT, 4],
+        b"2222222234.4",
     ),
     // <MB2> or </MB>
-    (
-        b"<RECS><REC><MSH></MSH><MB><MB1></MB1>",
-        [1, 1, 2, 3, 3, RIGHT, 2, 2, 3, RIGHT, 4, 4],
-    ),
+    (b"<RECS><REC><MSH></MSH><MB><MB1></MB1>", b"11233.223.44"),
     (
         b"<RECS><REC><MSH></MSH><MB><MB1></MB1><MB2></MB2>",
-        [1, 1, 2, 3, 3, RIGHT, 2, 2, 3, RIGHT, 4, 4],
+        b"11233.223.44",
     ),
     // a field or </MB2>
     (
         b"<RECS><REC><MSH></MSH><MB><MB1></MB1><MB2>",
-        [2, 2, 2, 2, 2, 2, 2, 2, 3, 4, 4, RIGHT],
+        b"22222222344.",
     ),
     (
         b"<RECS><REC><MSH></MSH><MB><MB1></MB1><MB2><M01>x</M01>",
-        [2, 2, 2, 2, 2, 2, 2, 2, 3, 4, 4, RIGHT],
+        b"22222222344.",
     ),
     // </REC>
     (
         b"<RECS><REC><MSH></MSH><MB><MB1></MB1></MB>",
-        [1, 1, 1, 1, 1, 1, 5, RIGHT, 2, 2, 2, 2],
+        b"1111115.2222",
     ),
     // nothing more
-    (b"<RECS></RECS>", [0, 0, 0, 0, 0, 0, 0, 0, 0, 0, 0, 0]),
+    (b"<RECS></RECS>", b"000000000000"),
     (
         b"<RECS><REC><MSH></MSH><MB><MB1></MB1></MB></REC></RECS>",
-        [0, 0, 0, 0, 0, 0, 0, 0, 0, 0, 0, 0],
+        b"000000000000",
     ),
 ];
 
-// Where one tag must stand: as above, with the number of the refusal for another that stands there whole.
-const REQUIRED: [(&[u8], u8, [usize; 12]); 5] = [
-    // <MSH>
-    (b"<RECS><REC>", 4, [1, 1, RIGHT, 2, 2, 2, 1, 1, 1, 1, 1, 1]),
+// The same where <MSH> must stand.
+const BEFORE_HEADER: [(&[u8], &[u8; 12]); 2] = [
+    (b"<RECS><REC>", b"11.222111111"),
     (
         b"<RECS><REC><MSH></MSH><MB><MB1></MB1></MB></REC><REC>",
-        4,
-        [1, 1, RIGHT, 2, 2, 2, 1, 1, 1, 1, 1, 1],
-    ),
-    // <MB1>
-    (
-        b"<RECS><REC><MSH></MSH><MB>",
-        5,
-        [1, 1, 2, 3, RIGHT, 3, 1, 1, 1, 1, 1, 1],
-    ),
-    (
-        b"<RECS><REC><MSH><M01>x</M01></MSH><MB>",
-        5,
-        [1, 1, 2, 3, RIGHT, 3, 1, 1, 1, 1, 1, 1],
-    ),
-    (
-        b"<RECS><REC><MSH></MSH><MB><MB1></MB1></MB></REC><REC><MSH></MSH><MB>",
-        5,
-        [1, 1, 2, 3, RIGHT, 3, 1, 1, 1, 1, 1, 1],
+        b"11.222111111",
     ),
 ];
 
-// In values, none of which may go on with a tag: with the cause for each tag. It is 3 at the slash and 2 at the bytes of the ID.
-const IN_VALUES: [(&[u8], [usize; 12], [u8; 12]); 8] = [
+// The same where <MB1> must stand.
+const BEFORE_VISIT: [(&[u8], &[u8; 12]); 3] = [
+    (b"<RECS><REC><MSH></MSH><MB>", b"1123.3111111"),
+    (b"<RECS><REC><MSH><M01>x</M01></MSH><MB>", b"1123.3111111"),
     (
-        b"<RECS><REC><MSH><M01>",
-        [1, 1, 1, 1, 1, 1, 2, 2, 3, 3, 3, 3],
-        [3, 3, 3, 3, 3, 3, 2, 2, 2, 2, 2, 2],
+        b"<RECS><REC><MSH></MSH><MB><MB1></MB1></MB></REC><REC><MSH></MSH><MB>",
+        b"1123.3111111",
     ),
-    (
-        b"<RECS><REC><MSH><M01>x\xa4\x40",
-        [1, 1, 1, 1, 1, 1, 2, 2, 3, 3, 3, 3],
-        [3, 3, 3, 3, 3, 3, 2, 2, 2, 2, 2, 2],
-    ),
-    (
-        b"<RECS><REC><MSH></MSH><MB><MB1><M01>",
-        [1, 1, 1, 1, 1, 1, 2, 2, 3, 3, 3, 3],
-        [3, 3, 3, 3, 3, 3, 2, 2, 2, 2, 2, 2],
-    ),
+];
+
+// The same in values, none of which may go on with a tag.
+const IN_VALUES: [(&[u8], &[u8; 12]); 8] = [
+    (b"<RECS><REC><MSH><M01>", b"111111223333"),
+    (b"<RECS><REC><MSH><M01>x\xa4\x40", b"111111223333"),
+    (b"<RECS><REC><MSH></MSH><MB><MB1><M01>", b"111111223333"),
     (
         b"<RECS><REC><MSH></MSH><MB><MB1></MB1><MB2><M01> ",
-        [1, 1, 1, 1, 1, 1, 2, 2, 3, 3, 3, 3],
-        [3, 3, 3, 3, 3, 3, 2, 2, 2, 2, 2, 2],
+        b"111111223333",
     ),
-    (
-        b"<RECS><REC><MSH><R01>x",
-        [1, 1, 1, 1, 1, 1, 3, 3, 2, 2, 2, 2],
-        [3, 3, 3, 3, 3, 3, 2, 2, 2, 2, 2, 2],
-    ),
-    (
-        b"<RECS><REC><MSH></MSH><MB><MB1><A01>x",
-        [1, 1, 1, 1, 1, 1, 2, 2, 2, 2, 2, 2],
-        [3, 3, 3, 3, 3, 3, 2, 2, 2, 2, 2, 2],
-    ),
+    (b"<RECS><REC><MSH><R01>x", b"111111332222"),
+    (b"<RECS><REC><MSH></MSH><MB><MB1><A01>x", b"111111222222"),
     // behind the first byte of a pair
-    (
-        b"<RECS><REC><MSH><M01>\xa4",
-        [0, 0, 0, 0, 0, 0, 0, 0, 0, 0, 0, 0],
-        [1, 1, 1, 1, 1, 1, 1, 1, 1, 1, 1, 1],
-    ),
+    (b"<RECS><REC><MSH><M01>\xa4", b"000000000000"),
     (
         b"<RECS><REC><MSH></MSH><MB><MB1></MB1><MB2><M01>x\xfe",
-        [0, 0, 0, 0, 0, 0, 0, 0, 0, 0, 0, 0],
-        [1, 1, 1, 1, 1, 1, 1, 1, 1, 1, 1, 1],
+        b"000000000000",
     ),
 ];
 
@@ -221,53 +171,56 @@ const LIKE_TAGS: [(&[u8], &[u8], usize); 57] = [
     (b"<RECS></RECS>", b"\x00", 0),
 ];
 
-// A tag that is right: cut it only begins a lawful upload, and whole it leaves only the byte after it wrong.
-fn goes_on(rt: &impl Abort, alloc: Global, before: &[u8], tag: &[u8]) -> Result<(), Fail> {
-    for end in 1..tag.len() {
-        let upload = declared(alloc, before, &tag[..end])?;
-        gives(rt, alloc, upload.as_slice(), b"", cut_short(upload.len()))?;
+// The first byte of a tag with which no lawful upload goes on, by the tag's mark.
+fn first_wrong(mark: u8) -> Option<usize> {
+    char::from(mark).to_digit(10).map(|digit| digit as usize)
+}
+
+// The cause where a tag stands in a value, by its first wrong byte: the second of a pair, the slash or one of the ID.
+fn cause_in_value(wrong: usize) -> Cause {
+    match wrong {
+        0 => Value,
+        1 => Elsewhere,
+        _ => ClosingId,
     }
-    let upload = declared(alloc, before, tag)?;
-    gives(
-        rt,
-        alloc,
-        upload.as_slice(),
-        b"\x00",
-        unlawful(3, upload.len()),
-    )
+}
+
+// A tag that is right: cut it only begins a lawful upload, and whole it leaves only the byte after it wrong.
+fn goes_on(rt: &(impl Abort + AllocGlobal), before: &[u8], tag: &[u8]) -> Result<(), Fail> {
+    for end in 1..tag.len() {
+        let place = before.len() + end;
+        gives(rt, &[before, &tag[..end]], cut_short(place))?;
+    }
+    let place = before.len() + tag.len();
+    gives(rt, &[before, tag, b"\x00"], unlawful(Elsewhere, place))
 }
 
 // A tag that is wrong, cut, alone and before other bytes.
-fn stands_wrong(
-    rt: &impl Abort,
-    alloc: Global,
-    before: &[u8],
-    tag: &[u8],
+fn stands_wrong<'a>(
+    rt: &(impl Abort + AllocGlobal),
+    before: &'a [u8],
+    tag: &'a [u8],
     wrong: usize,
-    cause: u8,
+    cause: Cause,
 ) -> Result<(), Fail> {
-    breaks(rt, alloc, before, tag, wrong, cause)?;
-    let place = before.len().wrapping_add(wrong).wrapping_add(37);
-    let upload = declared(alloc, before, tag)?;
+    breaks(rt, before, tag, wrong, cause)?;
+    let answer = unlawful(cause, before.len().wrapping_add(wrong));
     for rest in [b"\x00", b" ", b"<", b">", b"\xa4"] {
-        gives(rt, alloc, upload.as_slice(), rest, unlawful(cause, place))?;
+        gives(rt, &[before, tag, rest], answer)?;
     }
     Ok(())
 }
 
 // A tag that stands where another must: it counts only if it is whole.
-fn stands_for_another(
-    rt: &impl Abort,
-    alloc: Global,
-    before: &[u8],
-    tag: &[u8],
+fn stands_for_another<'a>(
+    rt: &(impl Abort + AllocGlobal),
+    before: &'a [u8],
+    tag: &'a [u8],
     wrong: usize,
-    number: u8,
+    refusal: Refusal,
 ) -> Result<(), Fail> {
     let (cut, _) = tag.split_at(tag.len().saturating_sub(1));
-    breaks(rt, alloc, before, cut, wrong, 3)?;
-    let place = before.len().wrapping_add(37);
-    let upload = declared(alloc, before, tag)?;
+    breaks(rt, before, cut, wrong, Elsewhere)?;
     for rest in [
         b"".as_slice(),
         b"\x00",
@@ -276,63 +229,62 @@ fn stands_for_another(
         b"<MSH>",
         b"<MB1></MB1>",
     ] {
-        gives(rt, alloc, upload.as_slice(), rest, (number, 0, place))?;
+        gives(rt, &[before, tag, rest], Err(refusal))?;
     }
     Ok(())
 }
 
-// Each tag behind the same bytes, with the number of the refusal for a wrong one that stands whole.
-fn each_tag(
-    rt: &impl Abort,
-    alloc: Global,
-    before: &[u8],
-    wrongs: &[usize; 12],
-    number: u8,
-) -> Result<(), Fail> {
-    for (tag, wrong) in TAGS.iter().zip(wrongs) {
-        if *wrong == RIGHT {
-            goes_on(rt, alloc, before, tag)?;
-        } else if number == 3 {
-            stands_wrong(rt, alloc, before, tag, *wrong, 3)?;
-        } else {
-            stands_for_another(rt, alloc, before, tag, *wrong, number)?;
+// Each tag behind the same bytes and each gap: one that is right goes on, and `stands` tries one that is wrong from a
+// byte on.
+fn each_tag<F: Fn(&[u8], &[u8], usize) -> Result<(), Fail>>(
+    rt: &(impl Abort + AllocGlobal),
+    before: &'static [u8],
+    gaps: &[&'static [u8]],
+    marks: &[u8; 12],
+    stands: F,
+) -> Result<(), Fail>
+    requires { F.IsAlwaysCallable stands }
+{
+    for gap in gaps {
+        let before = [DECLARATION, before, gap].concat(rt.alloc())?;
+        for (tag, mark) in TAGS.iter().zip(marks) {
+            match first_wrong(*mark) {
+                None => goes_on(rt, before.as_slice(), tag)?,
+                Some(wrong) => stands(before.as_slice(), tag, wrong)?,
+            }
         }
-    }
-    Ok(())
-}
-
-// The same with white bytes before the tag, which change nothing.
-fn each_tag_behind_white(
-    rt: &impl Abort,
-    alloc: Global,
-    before: &[u8],
-    wrongs: &[usize; 12],
-    number: u8,
-) -> Result<(), Fail> {
-    for white in [b"".as_slice(), b" ", b"\t", b"\r\n\n "] {
-        let before = followed(alloc, before, white)?;
-        each_tag(rt, alloc, before.as_slice(), wrongs, number)?;
     }
     Ok(())
 }
 
 #[test]
 fn tags_outside_of_values(rt: HostRuntime) -> Result<(), Fail> {
-    for (before, wrongs) in &OUTSIDE {
-        each_tag_behind_white(&rt, rt.alloc(), before, wrongs, 3)?;
+    for (before, marks) in &OUTSIDE {
+        each_tag(&rt, before, &WHITE, marks, |before, tag, wrong| {
+            stands_wrong(&rt, before, tag, wrong, Elsewhere)
+        })?;
     }
-    for (before, number, wrongs) in &REQUIRED {
-        each_tag_behind_white(&rt, rt.alloc(), before, wrongs, *number)?;
+    for (before, marks) in &BEFORE_HEADER {
+        each_tag(&rt, before, &WHITE, marks, |before, tag, wrong| {
+            let place = before.len();
+            stands_for_another(&rt, before, tag, wrong, NoHeader { place })
+        })?;
+    }
+    for (before, marks) in &BEFORE_VISIT {
+        each_tag(&rt, before, &WHITE, marks, |before, tag, wrong| {
+            let place = before.len();
+            stands_for_another(&rt, before, tag, wrong, NoVisit { place })
+        })?;
     }
     Ok(())
 }
 
 #[test]
 fn tags_in_values(rt: HostRuntime) -> Result<(), Fail> {
-    for (before, wrongs, causes) in &IN_VALUES {
-        for (tag, (wrong, cause)) in TAGS.iter().zip(wrongs.iter().zip(causes)) {
-            stands_wrong(&rt, rt.alloc(), before, tag, *wrong, *cause)?;
-        }
+    for (before, marks) in &IN_VALUES {
+        each_tag(&rt, before, &[b""], marks, |before, tag, wrong| {
+            stands_wrong(&rt, before, tag, wrong, cause_in_value(wrong))
+        })?;
     }
     Ok(())
 }
@@ -340,7 +292,8 @@ fn tags_in_values(rt: HostRuntime) -> Result<(), Fail> {
 #[test]
 fn like_tags(rt: HostRuntime) -> Result<(), Fail> {
     for (before, text, wrong) in &LIKE_TAGS {
-        breaks(&rt, rt.alloc(), before, text, *wrong, 3)?;
+        let before = [DECLARATION, before].concat(rt.alloc())?;
+        breaks(&rt, before.as_slice(), text, *wrong, Elsewhere)?;
     }
     Ok(())
 }

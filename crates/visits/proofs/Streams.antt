@@ -1,16 +1,15 @@
 -- A session from one byte to the next. Assumes nothing.
-use Rattle.std.proofs.Common.{◌≡◌, ◌≢◌, ℕ, zero, suc, ◌+◌, ◌-◌, ◌<◌, ◌≤◌, List, [], ◌∷◌, ◌++◌, map, length, take, Some, None, codes, Option, sym, refl, ap, ◌∙◌, subst, ⊎_elim, append_assoc, append-nil, arith, length-take}
-use Rattle.std.specs.Option.{option_map, option_to_list}
+use Rattle.std.proofs.Common.{◌≡◌, ◌≢◌, ℕ, zero, suc, ◌+◌, ◌-◌, ◌≤◌, false, List, [], ◌∷◌, ◌++◌, map, length, take, eqb, vec_len, codes, sym, refl, ap, ◌∙◌, subst, ⊎_elim, append_assoc, append-nil, arith, length-take}
+use Rattle.std.specs.Option.{option_map}
 use Rattle.std.specs.List.{flat_map}
 use Rattle.std.proofs.lemmas.List.Elements.{All-push}
 use Rattle.std.proofs.lemmas.List.{flat_map_more, map_push, take_all, take-append-le}
-use Rattle.std.proofs.lemmas.Bool.{cases_lt, cond_both}
+use Rattle.std.proofs.lemmas.Bool.{cases_lt, cond_both, eqb-false}
 use Rattle.calendar.proofs.Exact.{no_date, no_stamp}
-use Rattle.visits.specs.Answers.{reply, reply_to, wording}
+use Rattle.visits.specs.Answers.{Answer, reply, reply_to, wording}
 use Rattle.visits.specs.Lines.{line_feed, carriage_return, IsUnbroken, Cut, rest, ends_in, text}
-use Rattle.visits.specs.Sessions.{Counted, Ended, WentOn, Fed, Told, Complete}
+use Rattle.visits.specs.Sessions.{Counted, Ended, WentOn, Told, Complete}
 use Rattle.visits.specs.Visits.{either}
-use Rattle.visits.specs.declared.answer.Answer.{Answer}
 use Rattle.visits.proofs.Counting.{counted_more}
 use Rattle.visits.specs.declared.session.Session.{Session}
 
@@ -60,15 +59,15 @@ module _ (bs : List ℕ) (ended : List (List ℕ)) (begun : List ℕ) (c : Cut b
 -- ---- sessions
 
 module _ (bs : List ℕ) (given : List Answer) (s t : Session) (told : Told bs given s) where
-  told_on : (b : ℕ) → (b ≡ line_feed → ⊥) → WentOn s b t → Told (bs ++ b ∷ []) given t
-  told_on b n on = record {
+  pub told_on : (b : ℕ) → (b ≡ line_feed → ⊥) → WentOn s b t → Told (bs ++ b ∷ []) (given ++ []) t
+  told_on b n on = subst (λ xs. Told (bs ++ b ∷ []) xs t) (sym (append-nil given)) (record {
     ended = told.ended;
     begun = told.begun ++ b ∷ [];
     cut = cut_on bs told.ended told.begun told.cut b n;
     answered = told.answered;
     counted = subst (Counted given) (sym on.tally) told.counted;
     kept = on.line ∙ ap (λ xs. take 15 (xs ++ b ∷ [])) told.kept ∙ kept_on 15 told.begun b;
-  }
+  })
 
   module _ (a : Answer) (end : Ended s a t) where
     answered : map wording (given ++ a ∷ []) ≡ map reply_to (told.ended ++ told.begun ∷ [])
@@ -79,7 +78,7 @@ module _ (bs : List ℕ) (given : List Answer) (s t : Session) (told : Told bs g
     counted : Counted (given ++ a ∷ []) t.tally
     counted = subst (Counted (given ++ a ∷ [])) (sym end.tally) (counted_more given s.tally a told.counted)
 
-    told_end : (b : ℕ) → b ≡ line_feed → Told (bs ++ b ∷ []) (given ++ a ∷ []) t
+    pub told_end : (b : ℕ) → b ≡ line_feed → Told (bs ++ b ∷ []) (given ++ a ∷ []) t
     told_end b e = record {
       ended = told.ended ++ told.begun ∷ [];
       begun = [];
@@ -89,19 +88,15 @@ module _ (bs : List ℕ) (given : List Answer) (s t : Session) (told : Told bs g
       kept = end.line;
     }
 
-    pub complete_end : 0 < length s.line.items → Complete bs (given ++ a ∷ []) t.tally
+    pub complete_end : false ≡ eqb (vec_len s.line) 0 → Complete bs (given ++ a ∷ []) t.tally
     complete_end some = record {
       ended = told.ended;
       begun = told.begun;
       cut = told.cut;
-      answered = answered ∙ ap (λ xs. map reply_to (told.ended ++ xs)) (sym (one_rest told.begun (subst (λ xs. 0 < length xs) told.kept some)));
+      answered = answered ∙ ap (λ xs. map reply_to (told.ended ++ xs)) (sym (one_rest told.begun (subst (λ xs. length xs ≢ 0) told.kept (λ e. eqb-false _ 0 (sym some) (omega (arith, s.line.ok.0))))));
       counted = counted;
     }
       where
-        one_rest : (begun : List ℕ) → 0 < length (take 15 begun) → rest begun ≡ begun ∷ []
-        one_rest [] h = absurd (omega arith)
+        one_rest : (begun : List ℕ) → length (take 15 begun) ≢ 0 → rest begun ≡ begun ∷ []
+        one_rest [] h = absurd (h refl)
         one_rest (b ∷ begun) h = refl
-
-  pub fed : (b : ℕ) (r : Option Answer) → Fed s b r t → Told (bs ++ b ∷ []) (given ++ option_to_list r) t
-  fed b None f = subst (λ xs. Told (bs ++ b ∷ []) xs t) (sym (append-nil given)) (told_on b f.0 f.1)
-  fed b (Some a) f = told_end a f.1 b f.0

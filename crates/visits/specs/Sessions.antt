@@ -4,11 +4,9 @@
 --     Counted given t       the tally t counts the answers of each kind, as far as 64 bits go
 --     Told bs given s       the session s has read the bytes and given the answers: in order, one for each line that has ended
 --     Complete bs given t   the answers are those to all the lines of the bytes, the last perhaps without its line feed, and t counts them
-use Rattle.std.specs.Prelude.{◌≡◌, ℕ, ◌+◌, ◌-◌, ◌^◌, min, not, List, [], ◌∷◌, ◌++◌, map, take, Some, None, count_by, Option, ◌≢◌}
-use Rattle.visits.specs.Answers.{reply_to, wording, is_due}
+use Rattle.std.specs.Prelude.{◌≡◌, ℕ, ◌+◌, ◌-◌, ◌^◌, min, List, [], ◌∷◌, ◌++◌, map, take, Some, None, Ok, Err, is_ok, is_err, count_by, Option, ◌≢◌}
+use Rattle.visits.specs.Answers.{Answer, reply_to, wording}
 use Rattle.visits.specs.Lines.{line_feed, Cut, rest}
-use Rattle.visits.specs.declared.answer.Answer.{Answer}
-use Rattle.visits.specs.declared.answer.Answer.TheVariants.{Due, NoDay}
 use Rattle.visits.specs.declared.session.Session.{Session}
 use Rattle.visits.specs.declared.tally.Tally.{Tally}
 
@@ -16,12 +14,12 @@ abbrev pub capped_count : ℕ → ℕ
 capped_count n = min n (2 ^ 64 - 1)
 
 abbrev pub tally_with : Tally → Answer → Tally
-tally_with t (Due v d) = record { due = capped_count (t.due + 1); no_day = t.no_day }
-tally_with t NoDay = record { due = t.due; no_day = capped_count (t.no_day + 1) }
+tally_with t (Ok d) = record { due = capped_count (t.due + 1); no_day = t.no_day }
+tally_with t (Err e) = record { due = t.due; no_day = capped_count (t.no_day + 1) }
 
 pub record Counted (given : List Answer) (t : Tally) : Type 0 where
-  pub due : t.due ≡ capped_count (count_by is_due given)
-  pub none : t.no_day ≡ capped_count (count_by (λ a. not (is_due a)) given)
+  pub due : t.due ≡ capped_count (count_by is_ok given)
+  pub none : t.no_day ≡ capped_count (count_by is_err given)
 
 -- a line is ended and answered, and another begins
 pub record Ended (s : Session) (a : Answer) (u : Session) : Type 0 where

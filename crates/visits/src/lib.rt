@@ -2,10 +2,6 @@
 #![tactic(auto)]
 
 pub mod answer;
-pub mod answers;
 pub mod session;
-pub mod sessions;
-pub mod tallies;
 pub mod tally;
 pub mod visit;
-pub mod visits;

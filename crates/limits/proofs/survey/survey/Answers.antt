@@ -1,35 +1,25 @@
-use Rattle.std.proofs.Common.{[], ◌∷◌, ◌++◌, sym, ◌∙◌, arith}
-use Rattle.grammar.proofs.Tested.{lawful_from_test}
-use Rattle.cursor.specs.Pieces.{item}
-use Rattle.cursor.proofs.Runs.{passes_none, passes_more, tells_all}
-use Rattle.limits.proofs.Places.{told_within}
-use Rattle.limits.proofs.Tallied.{tallied_all}
+use Rattle.std.proofs.Common.{List, length, sym, ap, ◌∙◌, subst, arith}
+use Rattle.grammar.specs.Grammar.{Lawful}
+use Rattle.grammar.specs.Items.{Item}
+use Rattle.cursor.proofs.Left.{all_taken}
+use Rattle.limits.specs.Tallies.{Tallied}
+use Rattle.limits.proofs.Places.{piece_within}
+use Rattle.limits.proofs.Tallied.{few}
 use Rattle.limits.proofs.survey.survey.Goals as goal
 
-pub loop-piece-init : goal.loop-piece-init
-loop-piece-init c = let b = c.begin-cursor.ensures in ([], passes_none b.upload b.at b.state, c.new-tally.ensures c.args.sender.now)
+pub note-requires : goal.note-requires
+note-requires c =
+    let e = ap (λ k. length k.upload.now) c.into_iter-piece-iterator.ensures.into_iter_gives ∙ ap length c.begin-piece-items.ensures.upload in
+    let within = piece_within c.into_iter-piece-iterator.result c.loop-piece.piece-iterator c.next.new.self c.loop-piece.yielded c.in-Some.piece c.loop-piece.yielded_by c.in-Some.ensures.steps in
+    let counted = few c.loop-piece.invariant in
+    record { records = omega arith; orders = omega arith; place = omega arith }
 
-pub note-requires-clause-place : goal.note-requires-clause-place
-note-requires-clause-place c =
-    let so_far = c.loop-piece.invariant in
-    let e = c.in-Some.ensures in
-    omega (arith, told_within so_far.0 (item c.in-Some.piece) (lawful_from_test c.args.upload.bytes.now c.args.upload.lawful) (passes_more so_far.1 e.upload e.falls e.steps))
-
-pub loop-piece-preserved : goal.loop-piece-preserved
-loop-piece-preserved c =
-    let so_far = c.loop-piece.invariant in
-    let e = c.in-Some.ensures in
-    (so_far.0 ++ item c.in-Some.piece ∷ [], passes_more so_far.1 e.upload e.falls e.steps, c.note.ensures so_far.0 so_far.2)
-
-pub returns-clause-one_list : goal.returns-clause-one_list
-returns-clause-one_list c l m =
-    tells_all c.loop-piece.invariant.1 c.in_default.ensures.steps l ∙ sym (tells_all c.loop-piece.invariant.1 c.in_default.ensures.steps m)
-
-pub returns-clause-records : goal.returns-clause-records
-returns-clause-records c l = (tallied_all c.loop-piece.invariant.1 c.in_default.ensures.steps c.loop-piece.invariant.2 l).counted.records
-
-pub returns-clause-beyond : goal.returns-clause-beyond
-returns-clause-beyond c l = (tallied_all c.loop-piece.invariant.1 c.in_default.ensures.steps c.loop-piece.invariant.2 l).beyond
-
-pub returns-clause-foreign : goal.returns-clause-foreign
-returns-clause-foreign c l = (tallied_all c.loop-piece.invariant.1 c.in_default.ensures.steps c.loop-piece.invariant.2 l).foreign
+pub returns : goal.returns
+returns c =
+    let b = c.begin-piece-items.ensures in
+    let s = c.into_iter-piece-iterator.ensures.into_iter_gives in
+    let read = λ (l : Lawful c.args.upload.bytes.now).
+    all_taken c.args.upload.bytes.now c.into_iter-piece-iterator.result c.loop-piece.piece-iterator c.next.new.self c.loop-piece.yielded
+    (ap (λ k. k.upload.now) s ∙ b.upload) (ap (λ k. k.at) s ∙ b.at) (ap (λ k. k.state) s ∙ b.state) c.loop-piece.yielded_by c.in-None.ensures.steps l in
+    let tallied = λ (l : Lawful c.args.upload.bytes.now). subst (λ (is : List Item). Tallied c.args.sender.now is c.loop-piece.tally) (sym (read l)) c.loop-piece.invariant in
+    record { one_list = λ l m. read l ∙ sym (read m); records = λ l. (tallied l).counted.records; beyond = λ l. (tallied l).beyond; foreign = λ l. (tallied l).foreign }

@@ -26,8 +26,8 @@ pub loop-token-smaller : goal.loop-token-smaller
 loop-token-smaller c =
     let r = rw c.in-Some.is at c.in_ok-_token.ensures.reads in
     let h = c.loop-token.invariant in
-    let l = left_falls c.loop-token.reader.upload.now c.loop-token.reader.at c.loop-token.reader.station (part c.in-Some._token) c.step.new.self.station c.step.new.self.at h.stands.within r in
-    subst (λ (u : List ℕ). left u c.step.new.self.at c.step.new.self.station < left u c.loop-token.reader.at c.loop-token.reader.station) h.same l
+    let l = left_falls c.loop-token.reader.place.upload.now c.loop-token.reader.place.at c.loop-token.reader.station (part c.in-Some._token) c.step.new.self.station c.step.new.self.place.at h.stands.within r in
+    subst (λ (u : List ℕ). left u c.step.new.self.place.at c.step.new.self.station < left u c.loop-token.reader.place.at c.loop-token.reader.station) h.same l
 
 pub loop-token-preserved : goal.loop-token-preserved
 loop-token-preserved c =

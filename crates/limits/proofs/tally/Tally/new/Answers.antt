@@ -1,5 +1,6 @@
-use Rattle.limits.proofs.Tallied.{tallied_none}
+use Rattle.std.proofs.Common.{refl}
+use Rattle.limits.proofs.Firsts.{nowhere_none}
 use Rattle.limits.proofs.tally.Tally.new.Goals as goal
 
 pub returns : goal.returns
-returns c = tallied_none
+returns c = record { for_sender = refl; counted = record { records = refl; orders = refl }; beyond = nowhere_none; foreign = nowhere_none }
