@@ -50,6 +50,15 @@ def shape(code):
     return [w if w in keep or not re.match(r'\w|b?["\']', w) else 'x' for w in words]
 
 
+def alike(clause):
+    """An `ensures` with the names of its values taken out, so that the same fact reads the same."""
+    fact = re.sub(r'\b[a-z](\.[01])?\.(?=[a-z])', 'x.', re.sub(r'λ \w\.', 'λ x.', clause.strip()))
+    fact = re.sub(r'\b(self\.entry|self\.old|self\.now|behind\.entry)\b', 'self', fact)
+    for wrapped in (r'If\w+ x \(λ x\. (.*)\)', r'^If\w+ result \(λ x\. (.*)\)$'):
+        fact = re.sub(wrapped, r'\1', fact)
+    return fact.replace('result.', 'x.').replace('self.new.place.', 'x.').replace('.place', '')
+
+
 def point_1():
     for path in files():
         text = '\n'.join(lines_of(path))
@@ -96,24 +105,28 @@ def point_5():
                 for fact in re.split(r' × ', clause):
                     fact = re.sub(r'self\.(now|old)\.', '', fact.strip().strip('()'))
                     clauses.setdefault(re.sub(r'\b(from|at|i)\b', 'i', fact), []).append(f'{path}:{line} {name}')
+            for clause in re.findall(r'ensures(?: \w+)? \{(.*)\}', head):
+                fact = alike(clause)
+                if '≡' in fact and not fact.startswith('result'):
+                    clauses.setdefault('ensure in ' + path.split('/')[1] + ': ' + fact, []).append(f'{path}:{line} {name}')
             signature = head.split('\n    requires')[0].split('\n    ensures')[0]
             parameters = re.findall(r'(\w+): (&?[^,()]+)', signature[signature.find('(') + 1:])
             for pair in itertools.combinations(sorted({(n, re.sub(r"'a ", '', t).strip()) for n, t in parameters}), 2):
                 pairs.setdefault(pair, []).append(f'{path}:{line} {name}')
     for fact, places in clauses.items():
         if len(places) > 2:
-            yield f'{len(places)} functions', f'require {fact}: ' + ', '.join(p.split()[1] for p in places)
+            yield f'{len(places)} functions', f'{"" if fact.startswith("ensure in ") else "require "}{fact}: ' + ', '.join(p.split()[1] for p in places)
     for pair, places in pairs.items():
         if len(places) > 2:
             yield f'{len(places)} functions', f'take {pair[0][0]}: {pair[0][1]} and {pair[1][0]}: {pair[1][1]}: ' + ', '.join(p.split()[1] for p in places)
 
 
 def point_6():
-    yield from grep(r'\blen(gth)?: usize|\.zip\(|\[usize; \d+\], \[|\[(i|at|from|place|n)\b[^\]]*\]|\.binary_search|\[u8; \d+\]')
+    yield from grep(r'\blen(gth)?: usize|\.zip\(|\[usize; \d+\], \[|\w\[[^\];]*(\b(i|at|from|place|n|byte|second)\b|\.\.|^\d+$)[^\];]*\]|\.binary_search|\[u8; \d+\]')
 
 
 def point_7():
-    yield from grep(r'\bfn\(|dyn |: fn|if (number|mode|kind|mark|step) ==|match \(?(number|mode|kind|mark|step)\b')
+    yield from grep(r'\bfn\(|dyn |: fn|if (number|mode|kind|mark|step) ==|match \(?(self\.)?(number|mode|kind|mark|step)\b')
 
 
 def point_8():

@@ -1,5 +1,5 @@
 -- The laws of the due day. Assumes nothing.
-use Rattle.std.proofs.Common.{◌≡◌, ℕ, pred, ◌+◌, ◌<◌, ◌≤◌, min, eqb, sym, refl, ap, ◌∙◌, ap₂, ⊎_elim, arith}
+use Rattle.std.proofs.Common.{◌≡◌, ℕ, pred, ◌+◌, ◌<◌, ◌≤◌, min, eqb, sym, refl, ap, ap₂, ⊎_elim, arith}
 use Rattle.std.proofs.lemmas.Bool.{cases_lt, cond_both, eqb-true, eqb-false}
 use Rattle.std.proofs.lemmas.Bool.Decides.{nat_tests}
 use Rattle.calendar.specs.Calendar.{Date, IsReal, month_length}
@@ -68,10 +68,6 @@ module _ (v : Date) (r : IsReal v) (m : ℕ × ℕ) (f : Follows v m) where
             let l : d.day ≤ month_length d.year d.month = (in_month d.year d.month d.day rd).3 in
             not_after (last_of m) d (sym o.0) (sym o.1) (omega (arith, ap₂ month_length o.0 o.1));
       }
-
-pub due_made : (v : Date) (y m l : ℕ) → (y, m) ≡ month_after v.year v.month → l ≡ month_length y m → ◌≡◌ {A = Date} (record { year = y; month = m; day = l }) (due_of v)
-unfolding due_of
-due_made v y m l e f = (λ i. record { year = y; month = m; day = f i }) ∙ ap last_of e
 
 pub due_law : (v : Date) → IsReal v → DueLaw v (due_of v)
 unfolding due_of

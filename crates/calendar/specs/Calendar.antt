@@ -1,4 +1,4 @@
--- The calendar of the Republic: which dates are real. Over numbers alone, so that the file of the struct may cite it. Assumes nothing.
+-- The calendar of the Republic: which dates are real. Over numbers alone, so that the struct may cite it. Assumes nothing.
 --     Date               a year, a month and a day as numbers, real or not
 --     gregorian_year y   the Gregorian year of the year y of the Republic
 --     is_leap y          whether the year has a 29 February

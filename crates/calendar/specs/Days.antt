@@ -1,4 +1,4 @@
--- What a `Day` means, and the order of days. It names the struct, so the struct's own file does not cite it. Assumes nothing.
+-- What a `Day` means, and the order of days. It names the struct, so the struct itself does not cite it. Assumes nothing.
 --     date_of d         the date of a day
 --     written_day d     the seven bytes that write it
 --     DayOrder a b r    r says how the days a and b lie in time

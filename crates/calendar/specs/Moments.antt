@@ -1,4 +1,4 @@
--- What a `Moment` means. It names the struct, so the struct's own file does not cite it. Assumes nothing.
+-- What a `Moment` means. It names the struct, so the struct itself does not cite it. Assumes nothing.
 --     stamp_of m         the date and time of a moment
 --     written_moment m   the thirteen bytes that write it
 use Rattle.std.specs.Prelude.{ℕ, List}

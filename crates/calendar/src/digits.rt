@@ -19,7 +19,7 @@ pub(crate) fn two_digits(a: u8, b: u8) -> Option<u8>
     Some(digit(a)? * 10 + digit(b)?)
 }
 
-// Not one function with `two_digits`: a year needs a u16, and the rest a u8.
+// A digit before `two_digits`. A function of its own, since three digits write more than a u8 holds.
 pub(crate) fn three_digits(a: u8, b: u8, c: u8) -> Option<u16>
     ensures { result ≡ three_in (a ∷ b ∷ c ∷ []) }
 {

@@ -14,12 +14,7 @@ impl Day {
         ensures term { Term due_of }
         ensures samples { Samples }
     {
-        let next = Month::from(self).next();
-        Day {
-            year: next.year,
-            month: next.number,
-            day: next.length(),
-        }
+        Month::from(self).next().last_day()
     }
 
     // Whether this day is past the due day of a visit.

@@ -1,7 +1,8 @@
 // A month of the years 1 to 999: how long it is, and which comes next.
 ghost use Rattle.std.specs.Prelude.{◌≡◌, IsTrue, false, MatchOption};
 ghost use Rattle.calendar.specs.Calendar.{is_leap, is_month, month_length};
-ghost use Rattle.calendar.specs.Due.{month_after};
+ghost use Rattle.calendar.specs.Days.{date_of};
+ghost use Rattle.calendar.specs.Due.{last_of, month_after};
 
 use crate::day::Day;
 
@@ -39,6 +40,17 @@ impl Month {
             2 => 28,
             4 | 6 | 9 | 11 => 30,
             _ => 31,
+        }
+    }
+
+    // Its last day.
+    pub(crate) fn last_day(self) -> Day
+        ensures { date_of result ≡ last_of (self.year, self.number) }
+    {
+        Day {
+            year: self.year,
+            month: self.number,
+            day: self.length(),
         }
     }
 

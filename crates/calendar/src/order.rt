@@ -1,4 +1,5 @@
-// The order of days, which is that of time. It is not derived: a derived `cmp` has no clauses that say so.
+// The order of days. By hand: a derived `cmp` says only that the fields are compared, and these clauses say that the order is
+// that of time.
 ghost use Rattle.std.proofs.Common.{rules};
 ghost use Rattle.std.specs.Cmp.{IsTotalOrder, partial_order_from_agreeing_total};
 ghost use Rattle.std.specs.Cmp.Rules.{comparing};

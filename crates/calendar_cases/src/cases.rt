@@ -1,6 +1,7 @@
 // Days and moments as they are written.
 
-// A visit and its due day: month ends of years 1, 88, 89, 113, 189, 489 and 999, then January of years 100 apart, then the ends of years.
+// A visit and its due day: month ends of years 1, 88, 89, 113, 189, 489 and 999, then January of years 100 apart,
+// then the ends of years.
 pub const DUE: [([u8; 7], [u8; 7]); 96] = [
     (*b"0010131", *b"0010229"),
     (*b"0010229", *b"0010331"),
@@ -136,36 +137,36 @@ pub const RISING: [[u8; 7]; 32] = [
     *b"9991231",
 ];
 
-// Seven bytes that are no day.
-pub const NO_DAYS: [[u8; 7]; 24] = [
-    *b"0000101",
-    *b"0000000",
-    *b"0010100",
-    *b"0010001",
-    *b"0011301",
-    *b"0010132",
-    *b"0020229",
-    *b"0010431",
-    *b"0010631",
-    *b"0010931",
-    *b"0011131",
-    *b"1120229",
-    *b"1890229",
-    *b"2890229",
-    *b"3890229",
-    *b"5890229",
-    *b"9990230",
-    *b"9991232",
-    *b"9991301",
-    *b"9990100",
-    *b"113061A",
-    *b"113061 ",
-    *b"-130615",
-    *b"1130 15",
+// Bytes that are no day; the last three texts are not of seven bytes.
+pub const NO_DAYS: [&[u8]; 27] = [
+    b"0000101",
+    b"0000000",
+    b"0010100",
+    b"0010001",
+    b"0011301",
+    b"0010132",
+    b"0020229",
+    b"0010431",
+    b"0010631",
+    b"0010931",
+    b"0011131",
+    b"1120229",
+    b"1890229",
+    b"2890229",
+    b"3890229",
+    b"5890229",
+    b"9990230",
+    b"9991232",
+    b"9991301",
+    b"9990100",
+    b"113061A",
+    b"113061 ",
+    b"-130615",
+    b"1130 15",
+    b"",
+    b"113061",
+    b"11306155",
 ];
-
-// Bytes that are not seven, and so no day.
-pub const NOT_SEVEN: [&[u8]; 3] = [b"", b"113061", b"11306155"];
 
 pub const MOMENTS: [[u8; 13]; 4] = [
     *b"1130615000000",
@@ -174,14 +175,13 @@ pub const MOMENTS: [[u8; 13]; 4] = [
     *b"9991231235959",
 ];
 
-// Thirteen bytes that are no moment.
-pub const NO_MOMENTS: [[u8; 13]; 5] = [
-    *b"1130615240000",
-    *b"1130615006000",
-    *b"1130615000060",
-    *b"1120229120000",
-    *b"11306150000 0",
+// Bytes that are no moment; the last two texts are not of thirteen bytes.
+pub const NO_MOMENTS: [&[u8]; 7] = [
+    b"1130615240000",
+    b"1130615006000",
+    b"1130615000060",
+    b"1120229120000",
+    b"11306150000 0",
+    b"113061500000",
+    b"11306150000000",
 ];
-
-// Bytes that are not thirteen, and so no moment.
-pub const NOT_THIRTEEN: [&[u8]; 2] = [b"113061500000", b"11306150000000"];

@@ -6,7 +6,7 @@ mod cases;
 
 #[cfg(test)]
 mod tests {
-    use crate::cases::{DUE, MOMENTS, NO_DAYS, NO_MOMENTS, NOT_SEVEN, NOT_THIRTEEN, RISING};
+    use crate::cases::{DUE, MOMENTS, NO_DAYS, NO_MOMENTS, RISING};
     use calendar::day::Day;
     use calendar::moment::Moment;
     use std::test::Fail;
@@ -21,10 +21,7 @@ mod tests {
 
     #[test]
     fn unreal_days(rt: HostRuntime) {
-        for bytes in &NO_DAYS {
-            assert!(rt; Day::read(bytes).is_none());
-        }
-        for bytes in NOT_SEVEN {
+        for bytes in NO_DAYS {
             assert!(rt; Day::read(bytes).is_none());
         }
     }
@@ -34,18 +31,15 @@ mod tests {
         for bytes in &MOMENTS {
             assert!(rt; Moment::read(bytes).is_some());
         }
-        for bytes in &NO_MOMENTS {
-            assert!(rt; Moment::read(bytes).is_none());
-        }
-        for bytes in NOT_THIRTEEN {
+        for bytes in NO_MOMENTS {
             assert!(rt; Moment::read(bytes).is_none());
         }
     }
 
-    // Each day is after the one before it, which is not past due for it.
+    // Each day is after the one before it, which is not past the due day of a visit on it.
     #[test]
     fn order(rt: HostRuntime) -> Result<(), Fail> {
-        for (a, b) in RISING.iter().zip(&RISING[1..]) {
+        for [a, b] in RISING.array_windows::<2>() {
             let earlier = Day::read(a).ok_or("no day")?;
             let later = Day::read(b).ok_or("no day")?;
             assert!(rt; earlier < later);

@@ -1,5 +1,5 @@
 -- What a cursor has still to give, and what a call of `next` does. Assumes nothing.
---     left c                the items that the bytes from its place on hold, in its state
+--     left c                the items that the bytes from its place on hold, in its state. They are read by the path that the test gives; whatever other way there is gives the same (`left_is` in proofs/)
 --     Advances old r new    the call gives the first of them and leaves the others, in the same upload and further on; or there is none, and it leaves the cursor as it was
 use Rattle.std.specs.Prelude.{◌≡◌, ◌<◌, List, drop, Option, IfNone, IfSome}
 use Rattle.std.specs.Iterator.{YieldsFirstBy}

@@ -23,6 +23,8 @@ pub enum Piece<'a> {
     },
 }
 
+// An iterator over the pieces of an upload, which stands between two of them. Upload and place are its own fields, since what
+// is promised of it names them.
 #[derive(Drop)]
 pub struct Cursor<'a> {
     pub upload: &'a [u8],
@@ -30,6 +32,19 @@ pub struct Cursor<'a> {
     pub state: State,
     pub ghost within: { at ≤ length upload.now },
     pub ghost rest: { is_lawful_from state (drop at upload.now) ≡ true },
+}
+
+// A cursor behind the declaration.
+pub fn begin<'a>(upload: LawfulUpload<'a>) -> Cursor<'a>
+    ensures upload { result.upload.now ≡ upload.entry.bytes.now }
+    ensures at { result.at ≡ length declaration }
+    ensures state { result.state ≡ State.Start }
+{
+    Cursor {
+        upload: upload.bytes,
+        at: declaration_text().len(),
+        state: State::Start,
+    }
 }
 
 impl<'a> Cursor<'a> {
@@ -46,30 +61,17 @@ impl<'a> Cursor<'a> {
     }
 }
 
-// A cursor behind the declaration.
-pub fn begin<'a>(upload: LawfulUpload<'a>) -> Cursor<'a>
-    ensures upload { result.upload.now ≡ upload.entry.bytes.now }
-    ensures at { result.at ≡ length declaration }
-    ensures state { result.state ≡ State.Start }
-{
-    Cursor {
-        upload: upload.bytes,
-        at: declaration_text().len(),
-        state: State::Start,
-    }
-}
-
 impl<'a> Iterator for Cursor<'a> {
     ghost use Rattle.std.specs.Iterator.{item_count};
     ghost use Rattle.cursor.specs.Left.{left, Advances};
 
     type Item = Piece<'a>;
 
+    // Each call gives the first of the items that are left, and leaves the others.
     ghost next_gives = { Advances };
 
     ghost remaining = { item_count left };
 
-    // The next piece, or none at the end.
     fn next(&mut self) -> Option<Piece<'a>> {
         let place = past_white(self.upload, self.at);
         match self.wants(place) {
@@ -79,6 +81,7 @@ impl<'a> Iterator for Cursor<'a> {
                 Some(Piece::Structure { tag, place })
             }
             Wanted::Field(_) => {
+                // By index: a pattern needs an `else`, which no lawful upload would reach.
                 let id = FieldId {
                     letter: self.upload[place + 1],
                     tens: self.upload[place + 2],

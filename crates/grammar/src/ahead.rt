@@ -1,4 +1,5 @@
-// What stands next at a place of an upload.
+// What stands next at a place of an upload. Upload and place are taken apart here: each pass over an upload has a type of its
+// own that holds both.
 ghost use Rattle.std.specs.Prelude.{◌≡◌, ◌+◌, drop};
 ghost use Rattle.grammar.specs.Ahead.{white_len, closes};
 

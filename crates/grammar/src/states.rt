@@ -49,7 +49,7 @@ pub enum Tag {
     Close(Element),
 }
 
-// The name of a field: a capital letter and two digits, as bytes.
+// The name of a field: a capital letter and two digits, as bytes. No array, since the grammar asks something of each.
 #[derive(Clone, Copy, PartialEq, Eq, Debug)]
 pub struct FieldId {
     pub letter: u8,

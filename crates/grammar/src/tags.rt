@@ -54,7 +54,7 @@ impl Tag {
 }
 
 impl Segment {
-    // The element that holds the segment.
+    // The element that holds the segment. A method and no `From`: a segment does not become an element.
     pub fn element(self) -> Element
         ensures { result ≡ element self }
     {

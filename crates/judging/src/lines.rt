@@ -5,8 +5,9 @@ ghost use Rattle.judging.specs.Lines.{line_text};
 use reader::faults::Refusal;
 use std::fmt;
 
-// Of an upload that is taken: the number of records in two bytes.
-// Of one that goes back whole: number and cause in a byte each, the place in four; 0 where there is no cause or place.
+// What judge prints of an answer. A type of its own, since a `Result` can be given no `Display` here.
+// Of an upload that is taken: the last two bytes of the number of records.
+// Of one that goes back whole: number and cause in a byte each and the last four bytes of the place, 0 where there is none.
 #[derive(Clone, Copy)]
 pub struct Line(pub Result<usize, Refusal>);
 

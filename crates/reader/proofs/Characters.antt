@@ -4,7 +4,7 @@ use Rattle.std.proofs.lemmas.Bool.Decides.{nat_tests}
 use Rattle.grammar.specs.Bytes.{plain, lead, trail}
 use Rattle.grammar.specs.Grammar.{Value, empty, one, pair}
 use Rattle.reader.specs.Spans.{Spans, whole, half, none_after}
-use Rattle.reader.specs.Scans.{IsCharacter, ValueEnds, ValueBreaksAt, ValueBreaks}
+use Rattle.reader.specs.Scans.{IsCharacter, ValueBreaksAt, ValueBreaks}
 use Rattle.reader.specs.declared.faults.CharacterFault.{CharacterFault}
 use Rattle.reader.specs.declared.faults.CharacterFault.TheVariants.{Wrong, Ended}
 use Rattle.reader.proofs.Spanning.{spans_none, spans_one, spans_join}
@@ -56,9 +56,6 @@ module _ (u : List ℕ) (from at : ℕ) (w : Walked u from at) where
         value = value-append w.value c.value;
         spans = spans_join u from at to w.bytes c.bytes w.spans c.spans;
       }
-
-  pub walked_ends : at < length u → get_or u at 0 ≡ 0x3c → ValueEnds u from at
-  walked_ends l b = record { bytes = w.bytes; value = w.value; spans = w.spans; within = l; bracket = b }
 
   pub walked_breaks : (k : ℕ) → ValueBreaksAt u at k → ValueBreaksAt u from k
   walked_breaks k b =

@@ -1,9 +1,9 @@
 -- Where a token breaks off, no lawful upload goes on. Assumes nothing.
 use Rattle.std.proofs.lemmas.Grind.{common_steps}
-use Rattle.std.proofs.Common.{◌≡◌, ℕ, ◌+◌, ◌<◌, ◌≤◌, Bool, true, false, cond, eqb, ◌||◌, ◌==◌, List, [], ◌∷◌, ◌++◌, length, get_or, take, drop, codes, refl, sym, ap, ◌∙◌, subst, append-nil, length-append, arith}
+use Rattle.std.proofs.Common.{◌≡◌, ℕ, ◌+◌, ◌<◌, ◌≤◌, Bool, true, false, cond, eqb, ◌==◌, List, [], ◌∷◌, ◌++◌, length, get_or, take, drop, codes, refl, sym, ap, ◌∙◌, subst, append-nil, length-append, arith}
 use Rattle.std.proofs.lemmas.List.{get_or-drop}
-use Rattle.std.proofs.lemmas.Bool.{cond-false, eq-eqb, eqb-true, true≢false, or_parts}
-use Rattle.grammar.specs.Bytes.{plain, lead, trail}
+use Rattle.std.proofs.lemmas.Bool.{cond-false, eq-eqb, eqb-true, true≢false}
+use Rattle.grammar.specs.Bytes.{trail}
 use Rattle.calendar.specs.Digits.{is_digit}
 use Rattle.grammar.specs.Ahead.{closes}
 use Rattle.grammar.specs.Grammar.{letters, opening, name, spelling, Turn, opens_records, opens_record, opens_header, closes_header, opens_body, opens_visit, closes_visit, opens_order, closes_order, closes_body, closes_record, closes_records}

@@ -1,5 +1,5 @@
 -- What is expected, as far as it stands. Assumes nothing.
-use Rattle.std.proofs.Common.{◌≡◌, ◌↔◌, ℕ, ◌+◌, ◌<◌, ◌≤◌, Bool, true, false, ◌==◌, Result, Ok, Err, IfOk, IfErr, List, [], ◌∷◌, ◌++◌, length, get_or, take, drop, refl, sym, ap, ◌∙◌, subst, arith}
+use Rattle.std.proofs.Common.{◌≡◌, ◌↔◌, ℕ, ◌+◌, ◌<◌, Bool, true, false, ◌==◌, Result, Ok, Err, IfOk, IfErr, List, [], ◌∷◌, ◌++◌, length, get_or, take, drop, refl, sym, ap, ◌∙◌, subst, arith}
 use Rattle.std.proofs.lemmas.Bool.{true≢false, eqb-true}
 use Rattle.std.proofs.lemmas.List.{take_more}
 use Rattle.std.specs.Result.{is_ok}
@@ -9,7 +9,7 @@ use Rattle.reader.specs.Scans.{ByteMissing, TextMissing, Each, Stands, StandsTo,
 use Rattle.reader.specs.declared.faults.Cause.{Cause}
 use Rattle.reader.specs.declared.faults.TagFault.{TagFault}
 use Rattle.reader.specs.declared.faults.TagFault.TheVariants.{Wrong, Ended}
-use Rattle.reader.proofs.Spanning.{spans_none, spans_more}
+use Rattle.reader.proofs.Spanning.{spans_more}
 
 module _ {E : Type 0} (takes : E → ℕ → Bool) where
   each_more : (es : List E) (v : List ℕ) (e : E) (b : ℕ) → Each takes es v → takes e b ≡ true → Each takes (es ++ e ∷ []) (v ++ b ∷ [])
@@ -17,9 +17,6 @@ module _ {E : Type 0} (takes : E → ℕ → Bool) where
   each_more [] (x ∷ v) e b h k = absurd h
   each_more (d ∷ es) [] e b h k = absurd h
   each_more (d ∷ es) (x ∷ v) e b h k = (h.0, each_more es v e b h.1 k)
-
-  pub stands_none : (u : List ℕ) (at : ℕ) → at ≤ length u → Stands takes u at [] at
-  stands_none u at h = record { bytes = []; each = tt; spans = spans_none u at h }
 
   module _ (u : List ℕ) (from at : ℕ) (es : List E) (i : ℕ) (e : E) (l : i < length es) (is : e ≡ get_or es i e) (stand : Stands takes u from (take i es) at) where
     stands_to : (at < length u → takes e (get_or u at 0) ≡ false) → StandsTo takes u from es at

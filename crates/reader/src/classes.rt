@@ -4,6 +4,7 @@ ghost use Rattle.reader.specs.Scans.{fits};
 
 use grammar::bytes::{is_capital, is_digit};
 
+// What takes some bytes and no others.
 pub(crate) trait Expected: Copy {
     ghost takes: { Self → ℕ → Bool };
 
@@ -19,7 +20,7 @@ impl Expected for u8 {
     }
 }
 
-// What a byte of a tag must be.
+// What a byte of an opening tag must be. It has a case for one byte, since such a tag mixes bytes and classes.
 #[derive(Clone, Copy, PartialEq, Eq, Debug)]
 pub(crate) enum Class {
     Byte(u8),

@@ -25,7 +25,8 @@ impl From<Cause> for u8 {
     }
 }
 
-// No character stands at the place, or the upload ends there.
+// No character stands at the place, or the upload ends there. A type of its own, since a character has no cause to tell:
+// `From` adds it.
 #[derive(Clone, Copy, PartialEq, Eq, Debug)]
 pub enum CharacterFault {
     Wrong { place: usize },

@@ -1,5 +1,5 @@
 // Whether a tag of the structure stands where another must.
-ghost use Rattle.std.specs.Prelude.{◌≡◌, ◌↔◌, IsTrue, OnOk, IfErr};
+ghost use Rattle.std.specs.Prelude.{◌↔◌, IsTrue, OnOk, IfErr};
 ghost use Rattle.reader.specs.Places.{TagStands, SomeTagStands, OtherStands, Fitting, Misplaced};
 
 use crate::faults::{Cause, Refusal};

@@ -4,7 +4,8 @@ ghost use Rattle.reader.specs.Scans.{FaultAt};
 
 use crate::faults::{Cause, TagFault};
 
-// A place among the bytes of an upload, or its end.
+// A place among the bytes of an upload, or its end. Each function that gives a place behind it says that it is one of the same
+// upload: that is a fact of two places, which the type of one cannot carry.
 #[derive(Clone, Copy)]
 pub(crate) struct Place<'a> {
     pub(crate) upload: &'a [u8],
@@ -13,6 +14,7 @@ pub(crate) struct Place<'a> {
 }
 
 impl<'a> Place<'a> {
+    // Where the upload begins.
     pub(crate) fn first(upload: &'a [u8]) -> Place<'a>
         ensures upload { result.upload ≡ upload.entry }
         ensures at { result.at ≡ 0 }
@@ -36,7 +38,7 @@ impl<'a> Place<'a> {
         Some((byte, behind))
     }
 
-    // What is wrong where nothing that may stand here does: another byte does, or none.
+    // The fault here: a byte that may not stand here, or the end of the upload.
     pub(crate) fn fault(self, cause: Cause) -> TagFault
         ensures { FaultAt self.entry.upload.now self.entry.at cause result }
     {

@@ -1,5 +1,5 @@
 // The reader: it stands at a place and in a station, and goes on token by token.
-ghost use Rattle.std.specs.Prelude.{◌≡◌, ◌≤◌, ◌<◌, length, IfOk, IfErr, IfSome, IfNone, IsNone};
+ghost use Rattle.std.specs.Prelude.{◌≡◌, IfOk, IfErr, IfSome, IfNone};
 ghost use Rattle.reader.specs.Moves.{after, Undeclared, StandsAt, Stops};
 ghost use Rattle.grammar.specs.Grammar.{Lawful};
 ghost use Rattle.reader.specs.Laws.{Law};
@@ -25,6 +25,7 @@ impl<'a> Reader<'a> {
         ensures begun { IfOk result (λ r. StandsAt upload.entry.now r.place.at r.station) }
         ensures refused { IfErr result (λ f. Undeclared upload.entry.now f) }
     {
+        // A match and no `From`: whatever part of the declaration is wrong, it is one refusal.
         match Place::first(upload).past(declaration_text(), Cause::Elsewhere) {
             Ok(end) => Ok(Reader {
                 place: end.past_white(),
@@ -52,7 +53,8 @@ impl<'a> Reader<'a> {
         }
     }
 
-    // Goes to the place and the station behind a token.
+    // Goes to the place and the station behind a token. Some pairs of the match are never met, since no such token may stand
+    // there; there the station stays.
     fn advance(&mut self, token: Token<'a>, behind: Place<'a>)
         ensures upload { self.new.place.upload ≡ behind.entry.upload }
         ensures at { self.new.place.at ≡ behind.entry.at }

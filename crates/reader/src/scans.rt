@@ -60,22 +60,22 @@ impl<'a> Place<'a> {
         ensures bracket { IfOk result (λ o. IfNone o (slice_index self.entry.upload.now self.entry.at ≡ 0x3c)) }
         ensures breaks { IfErr result (λ f. ValueBreaks self.entry.upload.now self.entry.at f) }
     {
-        let Some((first, half)) = self.byte() else {
+        let Some((first, behind)) = self.byte() else {
             return Err(CharacterFault::Ended { place: self.at });
         };
         if first == b'<' {
             return Ok(None);
         }
         if is_plain(first) {
-            return Ok(Some(half));
+            return Ok(Some(behind));
         }
         if !is_lead(first) {
             return Err(CharacterFault::Wrong { place: self.at });
         }
-        match half.byte() {
-            Some((second, behind)) if is_trail(second) => Ok(Some(behind)),
-            Some(_) => Err(CharacterFault::Wrong { place: half.at }),
-            None => Err(CharacterFault::Ended { place: half.at }),
+        match behind.byte() {
+            Some((second, end)) if is_trail(second) => Ok(Some(end)),
+            Some(_) => Err(CharacterFault::Wrong { place: behind.at }),
+            None => Err(CharacterFault::Ended { place: behind.at }),
         }
     }
 

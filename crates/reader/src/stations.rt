@@ -2,7 +2,7 @@
 use grammar::states::{FieldId, Segment, State};
 
 // A state between tags, or a place in a field.
-#[derive(Clone, Copy, Debug)]
+#[derive(Clone, Copy, PartialEq, Eq, Debug)]
 pub enum Station {
     Between(State),
     // behind the opening tag of a field
@@ -12,10 +12,10 @@ pub enum Station {
 }
 
 impl Station {
-    // Whether an upload may end here.
     ghost use Rattle.std.specs.Prelude.{◌≡◌};
     ghost use Rattle.reader.specs.Moves.{may_end};
 
+    // Whether an upload may end here.
     pub fn may_end(self) -> bool
         ensures { result ≡ may_end self }
     {

@@ -11,6 +11,7 @@ fn read_whole(upload: &[u8]) -> Result<(), Refusal>
     ensures { Judged upload.now result }
 {
     let mut reader = Reader::begin(upload)?;
+    // A `while let` and no iterator: a step may fail, and requires what the steps before it have made sure of.
     while let Some(_token) = reader.step()? {}
     Ok(())
 }

@@ -29,6 +29,7 @@ impl<'a> Place<'a> {
         ensures missing { IfErr result (λ f. TextMissing self.entry.upload.now self.entry.at (spelling tag) Cause.Elsewhere f) }
     {
         let end = self.past(tag.text(), Cause::Elsewhere)?;
+        // By index, here and below: name and value lie between places that have been read, and a pattern would test them again.
         let token = match tag {
             Tag::Open(_) => Token::Open {
                 name: &self.upload[self.at + 1..end.at - 1],

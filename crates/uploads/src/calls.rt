@@ -1,7 +1,7 @@
 // What the relay hands over.
 use limits::tally::MOST_RECORDS;
 
-// Lent for one call.
+// A call of the relay: who sends, the receipt day, the upload, and the room for its verdicts.
 #[derive(Clone, Copy)]
 pub struct Call<'a> {
     pub sender: &'a [u8],
@@ -16,4 +16,4 @@ pub struct Call<'a> {
 pub const LEAST_ROWS: usize = MOST_RECORDS;
 
 // The greatest length of an upload.
-pub const MOST_BYTES: usize = 1048576;
+pub const MOST_BYTES: usize = 1_048_576;

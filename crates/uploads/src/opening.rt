@@ -15,7 +15,7 @@ use limits::survey::survey;
 use reader::faults::Refusal;
 use reader::structure::check_structure;
 
-// The right answer to a call. That no other is right is shown of it once, in `open`.
+// The right answer to a call. `open` adds that no other is right, so that this is proved once and not at each exit.
 fn answer<'a>(call: Call<'a>) -> Result<Upload<'a>, Refusal>
     ensures { Answer (call_of call.entry) (taken_of result) }
 {
@@ -25,6 +25,7 @@ fn answer<'a>(call: Call<'a>) -> Result<Upload<'a>, Refusal>
     }
     let file = check_structure(call.upload)?;
     let found = survey(file, call.sender);
+    // Two tests, one after the other: a closure over each place would say no more.
     if let Some(place) = found.beyond {
         return Err(Refusal::TooMany { place });
     }

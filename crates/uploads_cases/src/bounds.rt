@@ -136,7 +136,7 @@ fn comes_to(rt: &impl Abort, upload: &[u8], answer: Answer) {
     );
 }
 
-// An upload and its last bytes: what is too many is told only of an upload that is lawful to its end.
+// Tries an upload without its end, with a wrong byte there, and with its end: only then is it told what is too many.
 fn ends(rt: &(impl Abort + AllocGlobal), cut: &[u8], answer: Answer) -> Result<(), Fail> {
     let place = cut.len();
     comes_to(rt, cut, cut_short(place));

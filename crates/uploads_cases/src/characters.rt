@@ -1,10 +1,11 @@
 // Values: every byte alone, and every two bytes of a pair.
-use crate::files::{DECLARATION, breaks, cut_short, gives, unlawful};
+use crate::files::{DECLARATION, Standing, cut_short, gives, unlawful};
 use reader::faults::Cause::{Elsewhere, Value};
 use std::process::Abort;
 use std::test::Fail;
 
-// What stands before and behind a value, in each of the three segments.
+// What stands before and behind a value, in each of the three segments. Not made from the table of fields.rt: with the tags
+// of a field added to each row it would be longer.
 const AROUND: [(&[u8], &[u8]); 3] = [
     (
         b"<RECS><REC><MSH><M01>",
@@ -25,7 +26,8 @@ const AROUND: [(&[u8], &[u8]); 3] = [
 //     p  the first of a pair
 //     <  the start of the closing tag
 //     !  wrong
-// The classes stay characters: they are drawn in rows, and an enum of them would only say this list again.
+// The classes stay characters and the rows 16 wide, as bytes are drawn in tables: an enum of the classes would only say
+// this list again, and nobody could read a row of 256.
 const FIRST: [[u8; 16]; 16] = [
     *b"!!!!!!!!!!!!!!!!",
     *b"!!!!!!!!!!!!!!!!",
@@ -64,6 +66,10 @@ const SECOND: [[u8; 16]; 16] = [
     *b"bbbbbbbbbbbbbbbb",
     *b"bbbbbbbbbbbbbbb!",
 ];
+
+fn class_of(table: &[[u8; 16]; 16], byte: u8) -> u8 {
+    table[(byte / 16) as usize][(byte % 16) as usize]
+}
 
 // Text in a value, and the first of its bytes with which no lawful upload goes on.
 const HALVES: [(&[u8], usize); 32] = [
@@ -130,13 +136,12 @@ fn byte_stands(
     byte: u8,
     after: &[u8],
 ) -> Result<(), Fail> {
-    let class = FIRST[(byte / 16) as usize][(byte % 16) as usize];
     let place = before.len();
     let ended = cut_short(place + 1);
     let wrong = unlawful(Value, place);
     let half = unlawful(Value, place + 1);
     let tag = unlawful(Elsewhere, place + 1);
-    let (at_end, before_tag, before_letter) = match class {
+    let (at_end, before_tag, before_letter) = match class_of(&FIRST, byte) {
         b'a' => (ended, Ok(1), Ok(1)),
         b'p' => (ended, half, Ok(1)),
         b'<' => (ended, tag, tag),
@@ -157,7 +162,7 @@ fn pair_stands(
     let place = before.len() + 1;
     let wrong = unlawful(Value, place);
     let [_, second] = pair;
-    let (at_end, before_tag) = match SECOND[(second / 16) as usize][(second % 16) as usize] {
+    let (at_end, before_tag) = match class_of(&SECOND, second) {
         b'b' => (cut_short(place + 1), Ok(1)),
         _ => (wrong, wrong),
     };
@@ -193,7 +198,12 @@ fn halves_of_pairs(rt: HostRuntime) -> Result<(), Fail> {
     for (before, after) in &AROUND {
         let declared = [DECLARATION, before].concat(rt.alloc())?;
         for (text, wrong) in &HALVES {
-            breaks(&rt, declared.as_slice(), text, *wrong, Value)?;
+            let standing = Standing {
+                before: declared.as_slice(),
+                text,
+                wrong: *wrong,
+            };
+            standing.breaks(&rt, Value)?;
         }
         for value in &WHOLE {
             gives(&rt, &[DECLARATION, before, value, after], Ok(1))?;

@@ -1,5 +1,5 @@
 // The tags of fields, in each of the three segments.
-use crate::files::{DECLARATION, breaks, gives};
+use crate::files::{DECLARATION, Standing, gives};
 use reader::faults::Cause::{self, ClosingId, Elsewhere};
 use std::test::Fail;
 
@@ -120,7 +120,12 @@ fn fields(rt: HostRuntime) -> Result<(), Fail> {
     for (before, after) in &AROUND {
         let declared = [DECLARATION, before].concat(rt.alloc())?;
         for (text, wrong, cause) in &WRONG {
-            breaks(&rt, declared.as_slice(), text, *wrong, *cause)?;
+            let standing = Standing {
+                before: declared.as_slice(),
+                text,
+                wrong: *wrong,
+            };
+            standing.breaks(&rt, *cause)?;
         }
         for text in &RIGHT {
             gives(&rt, &[DECLARATION, before, text, after], Ok(1))?;

@@ -50,22 +50,26 @@ pub(crate) fn gives(
     Ok(())
 }
 
-// The text follows on what stands before. Its byte at `wrong` is the first with which no lawful upload goes on there, so
-// that cut behind any of its bytes it only begins a lawful upload, or is refused at that byte.
-pub(crate) fn breaks(
-    rt: &(impl Abort + AllocGlobal),
-    before: &[u8],
-    text: &[u8],
-    wrong: usize,
-    cause: Cause,
-) -> Result<(), Fail> {
-    for end in 1..=text.len() {
-        let answer = if end <= wrong {
-            cut_short(before.len() + end)
-        } else {
-            unlawful(cause, before.len() + wrong)
-        };
-        gives(rt, &[before, &text[..end]], answer)?;
+// Text behind what stands before it. Its byte at `wrong` is the first with which no lawful upload goes on there.
+#[derive(Clone, Copy)]
+pub(crate) struct Standing<'a> {
+    pub(crate) before: &'a [u8],
+    pub(crate) text: &'a [u8],
+    pub(crate) wrong: usize,
+}
+
+impl Standing<'_> {
+    // Cut behind any of its bytes it only begins a lawful upload, or is refused at the wrong one.
+    pub(crate) fn breaks(self, rt: &(impl Abort + AllocGlobal), cause: Cause) -> Result<(), Fail> {
+        let before = self.before;
+        for end in 1..=self.text.len() {
+            let answer = if end <= self.wrong {
+                cut_short(before.len() + end)
+            } else {
+                unlawful(cause, before.len() + self.wrong)
+            };
+            gives(rt, &[before, &self.text[..end]], answer)?;
+        }
+        Ok(())
     }
-    Ok(())
 }

@@ -1,4 +1,4 @@
-// The relay's call on tables of uploads. The expected answers were worked out from the format by hand, not by this code.
+// The relay's call on tables of uploads. The expected answers were worked out from the format by hand, not by the code.
 #![tactic(auto)]
 
 #[cfg(test)]

@@ -1,42 +1,46 @@
 // How each refusal is told: by number, cause and place.
 use reader::faults::{Cause, Refusal};
 
-const REFUSALS: [(Refusal, (u8, u8, usize)); 11] = [
-    (Refusal::Length, (1, 0, 0)),
-    (Refusal::Declaration { place: 35 }, (2, 0, 35)),
+type Told = (u8, Option<u8>, Option<usize>);
+
+const REFUSALS: [(Refusal, Told); 11] = [
+    (Refusal::Length, (1, None, None)),
+    (Refusal::Declaration { place: 35 }, (2, None, Some(35))),
     (
         Refusal::Unlawful {
             cause: Cause::Value,
             place: 58,
         },
-        (3, 1, 58),
+        (3, Some(1), Some(58)),
     ),
     (
         Refusal::Unlawful {
             cause: Cause::ClosingId,
             place: 62,
         },
-        (3, 2, 62),
+        (3, Some(2), Some(62)),
     ),
     (
         Refusal::Unlawful {
             cause: Cause::Elsewhere,
             place: 113,
         },
-        (3, 3, 113),
+        (3, Some(3), Some(113)),
     ),
-    (Refusal::NoHeader { place: 48 }, (4, 0, 48)),
-    (Refusal::NoVisit { place: 63 }, (5, 0, 63)),
-    (Refusal::CutShort { place: 74 }, (6, 0, 74)),
-    (Refusal::Foreign { place: 84 }, (7, 0, 84)),
-    (Refusal::TooMany { place: 11063 }, (8, 0, 11063)),
-    (Refusal::Call, (9, 0, 0)),
+    (Refusal::NoHeader { place: 48 }, (4, None, Some(48))),
+    (Refusal::NoVisit { place: 63 }, (5, None, Some(63))),
+    (Refusal::CutShort { place: 74 }, (6, None, Some(74))),
+    (Refusal::Foreign { place: 84 }, (7, None, Some(84))),
+    (Refusal::TooMany { place: 11063 }, (8, None, Some(11063))),
+    (Refusal::Call, (9, None, None)),
 ];
 
-// As judge prints them: 0 where there is no cause or no place.
-fn told(refusal: Refusal) -> (u8, u8, usize) {
-    let cause = refusal.cause().map_or(0, u8::from);
-    (refusal.number(), cause, refusal.place().unwrap_or(0))
+fn told(refusal: Refusal) -> Told {
+    (
+        refusal.number(),
+        refusal.cause().map(u8::from),
+        refusal.place(),
+    )
 }
 
 #[test]

@@ -6,8 +6,8 @@ use std::process::Abort;
 use std::test::Fail;
 use uploads::calls::Call;
 
-// The fields of <MSH>, <MB1> and <MB2> in an upload of the sender 3501200000, and what becomes of it. The fields of <MSH>
-// begin at place 53, those of <MB1> fifteen bytes behind them, and those of <MB2> eleven behind those.
+// The fields of <MSH>, <MB1> and <MB2> in an upload of the sender 3501200000, and what becomes of it. The fields of
+// <MSH> begin at place 53, those of <MB1> fifteen bytes behind them, and those of <MB2> eleven behind those.
 const FIELDS: [(&[u8], &[u8], &[u8], Answer); 33] = [
     // unwritten
     (b"", b"", b"", Ok(1)),

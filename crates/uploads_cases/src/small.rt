@@ -5,8 +5,8 @@ use reader::faults::Refusal::{Declaration, Foreign, Length};
 use std::alloc::{AllocError, Global};
 use std::test::Fail;
 
-// The upload, of two records, piece by piece. The mark below each of its bytes says what becomes of it if one white byte
-// more stands before that byte; white is space, tab, CR or LF.
+// The upload, of two records, piece by piece. The mark of each of its bytes, in the row beside it, says what becomes of it
+// if one white byte more stands before that byte; white is space, tab, CR or LF.
 //     .  it stays lawful
 //     d  the declaration is wrong at the white byte
 //     s  so it is, but a space passes for the one that stands there, and the byte after it is wrong
@@ -15,7 +15,7 @@ use std::test::Fail;
 //     v  in a value: a space is a character of it, all others are unlawful with cause 1
 //     m  in a value of M05: as v, but a space makes the sender foreign, at the first byte of the value
 //     p  in the midst of a pair: unlawful with cause 1
-// The marks stay letters: they are drawn below the bytes, and an enum of them would only say this list again.
+// The marks stay letters: a row of them is read beside the bytes, and an enum would only say this list again.
 const PIECES: [(&[u8], &[u8]); 47] = [
     (
         b"<?xml version=\"1.0\" encoding=\"Big5\"?>",
@@ -70,19 +70,7 @@ const PIECES: [(&[u8], &[u8]); 47] = [
 ];
 
 fn upload(alloc: Global) -> Result<Vec<u8>, AllocError> {
-    PIECES
-        .iter()
-        .flat_map(|(piece, _)| *piece)
-        .copied()
-        .collect(alloc)
-}
-
-fn marks(alloc: Global) -> Result<Vec<u8>, AllocError> {
-    PIECES
-        .iter()
-        .flat_map(|(_, marks)| *marks)
-        .copied()
-        .collect(alloc)
+    PIECES.map(|(piece, _)| piece).concat(alloc)
 }
 
 // The upload with all four white bytes more wherever they may stand.
@@ -104,7 +92,7 @@ struct Gap<'a> {
     after: &'a [u8],
     // the mark of the byte behind it
     mark: u8,
-    // where the value around it begins
+    // in a value of M05, where the value begins; elsewhere, the next place
     value: usize,
 }
 
@@ -114,7 +102,7 @@ impl Gap<'_> {
         [self.before, &[byte], self.after].concat(alloc)
     }
 
-    // The answer to a white byte.
+    // The answer to a white byte. By the mark's letter, as in the list above, and so below.
     fn white_answer(self, byte: u8) -> Answer {
         let place = self.before.len();
         match (self.mark, byte) {
@@ -169,9 +157,10 @@ fn cut_at_every_byte(rt: HostRuntime) -> Result<(), Fail> {
 #[test]
 fn one_byte_more(rt: HostRuntime) -> Result<(), Fail> {
     let bytes = upload(rt.alloc())?;
-    let marks = marks(rt.alloc())?;
+    let marks = PIECES.map(|(_, marks)| marks).concat(rt.alloc())?;
     assert_eq!(rt; marks.len(), bytes.len());
     let mut value = 0;
+    // by place: zipped with the marks and a dot behind them, the places were not proved to lie within the bytes
     for place in 0..=bytes.len() {
         let (before, after) = bytes.as_slice().split_at(place);
         let mark = marks.get(place).copied().unwrap_or(b'.');

@@ -1,5 +1,5 @@
 // The twelve tags of the structure where they must not stand.
-use crate::files::{DECLARATION, breaks, cut_short, gives, unlawful};
+use crate::files::{DECLARATION, Standing, cut_short, gives, unlawful};
 use reader::faults::Cause::{self, ClosingId, Elsewhere, Value};
 use reader::faults::Refusal::{self, NoHeader, NoVisit};
 use std::process::Abort;
@@ -13,8 +13,9 @@ const TAGS: [&[u8]; 12] = [
 // White bytes between two tags, which change nothing.
 const WHITE: [&[u8]; 4] = [b"", b" ", b"\t", b"\r\n\n "];
 
-// What stands before, and a mark for each tag in the order above: the first of its bytes with which no lawful upload goes
-// on, or a point where the tag is right.
+// What stands before, and a mark for each tag in the order above: the first of its bytes with which no lawful upload
+// goes on, or a dot where the tag is right. The marks stay characters: twelve options in a row
+// would be no plainer than a row of twelve characters.
 const OUTSIDE: [(&[u8], &[u8; 12]); 16] = [
     // <RECS>
     (b"", b".41111111111"),
@@ -83,26 +84,56 @@ const BEFORE_VISIT: [(&[u8], &[u8; 12]); 3] = [
     ),
 ];
 
-// The same in values, none of which may go on with a tag.
-const IN_VALUES: [(&[u8], &[u8; 12]); 8] = [
-    (b"<RECS><REC><MSH><M01>", b"111111223333"),
-    (b"<RECS><REC><MSH><M01>x\xa4\x40", b"111111223333"),
-    (b"<RECS><REC><MSH></MSH><MB><MB1><M01>", b"111111223333"),
+// The same in values, none of which may go on with a tag, and the causes for an opening and for a closing one.
+const IN_VALUES: [(&[u8], &[u8; 12], Cause, Cause); 8] = [
+    (
+        b"<RECS><REC><MSH><M01>",
+        b"111111223333",
+        Elsewhere,
+        ClosingId,
+    ),
+    (
+        b"<RECS><REC><MSH><M01>x\xa4\x40",
+        b"111111223333",
+        Elsewhere,
+        ClosingId,
+    ),
+    (
+        b"<RECS><REC><MSH></MSH><MB><MB1><M01>",
+        b"111111223333",
+        Elsewhere,
+        ClosingId,
+    ),
     (
         b"<RECS><REC><MSH></MSH><MB><MB1></MB1><MB2><M01> ",
         b"111111223333",
+        Elsewhere,
+        ClosingId,
     ),
-    (b"<RECS><REC><MSH><R01>x", b"111111332222"),
-    (b"<RECS><REC><MSH></MSH><MB><MB1><A01>x", b"111111222222"),
+    (
+        b"<RECS><REC><MSH><R01>x",
+        b"111111332222",
+        Elsewhere,
+        ClosingId,
+    ),
+    (
+        b"<RECS><REC><MSH></MSH><MB><MB1><A01>x",
+        b"111111222222",
+        Elsewhere,
+        ClosingId,
+    ),
     // behind the first byte of a pair
-    (b"<RECS><REC><MSH><M01>\xa4", b"000000000000"),
+    (b"<RECS><REC><MSH><M01>\xa4", b"000000000000", Value, Value),
     (
         b"<RECS><REC><MSH></MSH><MB><MB1></MB1><MB2><M01>x\xfe",
         b"000000000000",
+        Value,
+        Value,
     ),
 ];
 
-// What is no tag of the structure, though much like one, and the first of its bytes with which no lawful upload goes on.
+// What is no tag of the structure, though much like one, and the first of its bytes with which no lawful
+// upload goes on.
 const LIKE_TAGS: [(&[u8], &[u8], usize); 57] = [
     // for <RECS>
     (b"", b"<RECS/>", 5),
@@ -176,15 +207,6 @@ fn first_wrong(mark: u8) -> Option<usize> {
     char::from(mark).to_digit(10).map(|digit| digit as usize)
 }
 
-// The cause where a tag stands in a value, by its first wrong byte: the second of a pair, the slash or one of the ID.
-fn cause_in_value(wrong: usize) -> Cause {
-    match wrong {
-        0 => Value,
-        1 => Elsewhere,
-        _ => ClosingId,
-    }
-}
-
 // A tag that is right: cut it only begins a lawful upload, and whole it leaves only the byte after it wrong.
 fn goes_on(rt: &(impl Abort + AllocGlobal), before: &[u8], tag: &[u8]) -> Result<(), Fail> {
     for end in 1..tag.len() {
@@ -195,48 +217,37 @@ fn goes_on(rt: &(impl Abort + AllocGlobal), before: &[u8], tag: &[u8]) -> Result
     gives(rt, &[before, tag, b"\x00"], unlawful(Elsewhere, place))
 }
 
-// A tag that is wrong, cut, alone and before other bytes.
-fn stands_wrong<'a>(
-    rt: &(impl Abort + AllocGlobal),
-    before: &'a [u8],
-    tag: &'a [u8],
-    wrong: usize,
-    cause: Cause,
-) -> Result<(), Fail> {
-    breaks(rt, before, tag, wrong, cause)?;
-    let answer = unlawful(cause, before.len().wrapping_add(wrong));
-    for rest in [b"\x00", b" ", b"<", b">", b"\xa4"] {
-        gives(rt, &[before, tag, rest], answer)?;
+impl Standing<'_> {
+    // A tag that is wrong, cut, alone and before other bytes.
+    fn is_wrong(self, rt: &(impl Abort + AllocGlobal), cause: Cause) -> Result<(), Fail> {
+        self.breaks(rt, cause)?;
+        let answer = unlawful(cause, self.before.len().wrapping_add(self.wrong));
+        for rest in [b"\x00", b" ", b"<", b">", b"\xa4"] {
+            gives(rt, &[self.before, self.text, rest], answer)?;
+        }
+        Ok(())
     }
-    Ok(())
+
+    // A tag that stands where another must: it counts only if it is whole.
+    fn is_another(self, rt: &(impl Abort + AllocGlobal), refusal: Refusal) -> Result<(), Fail> {
+        let (cut, _) = self.text.split_at(self.text.len().saturating_sub(1));
+        Standing { text: cut, ..self }.breaks(rt, Elsewhere)?;
+        for rest in [
+            b"".as_slice(),
+            b"\x00",
+            b"x",
+            b"</RECS>",
+            b"<MSH>",
+            b"<MB1></MB1>",
+        ] {
+            gives(rt, &[self.before, self.text, rest], Err(refusal))?;
+        }
+        Ok(())
+    }
 }
 
-// A tag that stands where another must: it counts only if it is whole.
-fn stands_for_another<'a>(
-    rt: &(impl Abort + AllocGlobal),
-    before: &'a [u8],
-    tag: &'a [u8],
-    wrong: usize,
-    refusal: Refusal,
-) -> Result<(), Fail> {
-    let (cut, _) = tag.split_at(tag.len().saturating_sub(1));
-    breaks(rt, before, cut, wrong, Elsewhere)?;
-    for rest in [
-        b"".as_slice(),
-        b"\x00",
-        b"x",
-        b"</RECS>",
-        b"<MSH>",
-        b"<MB1></MB1>",
-    ] {
-        gives(rt, &[before, tag, rest], Err(refusal))?;
-    }
-    Ok(())
-}
-
-// Each tag behind the same bytes and each gap: one that is right goes on, and `stands` tries one that is wrong from a
-// byte on.
-fn each_tag<F: Fn(&[u8], &[u8], usize) -> Result<(), Fail>>(
+// Each tag behind the same bytes and each gap. A right one goes on; `stands` tries a wrong one, with its first wrong byte.
+fn each_tag<F: Fn(Standing) -> Result<(), Fail>>(
     rt: &(impl Abort + AllocGlobal),
     before: &'static [u8],
     gaps: &[&'static [u8]],
@@ -250,7 +261,11 @@ fn each_tag<F: Fn(&[u8], &[u8], usize) -> Result<(), Fail>>(
         for (tag, mark) in TAGS.iter().zip(marks) {
             match first_wrong(*mark) {
                 None => goes_on(rt, before.as_slice(), tag)?,
-                Some(wrong) => stands(before.as_slice(), tag, wrong)?,
+                Some(wrong) => stands(Standing {
+                    before: before.as_slice(),
+                    text: tag,
+                    wrong,
+                })?,
             }
         }
     }
@@ -260,20 +275,26 @@ fn each_tag<F: Fn(&[u8], &[u8], usize) -> Result<(), Fail>>(
 #[test]
 fn tags_outside_of_values(rt: HostRuntime) -> Result<(), Fail> {
     for (before, marks) in &OUTSIDE {
-        each_tag(&rt, before, &WHITE, marks, |before, tag, wrong| {
-            stands_wrong(&rt, before, tag, wrong, Elsewhere)
-        })?;
+        each_tag(
+            &rt,
+            before,
+            &WHITE,
+            marks,
+            |tag| tag.is_wrong(&rt, Elsewhere),
+        )?;
     }
+    // two loops that differ in the refusal: it holds the place, so that a function for both would take a closure over
+    // the place, and be longer than they are
     for (before, marks) in &BEFORE_HEADER {
-        each_tag(&rt, before, &WHITE, marks, |before, tag, wrong| {
-            let place = before.len();
-            stands_for_another(&rt, before, tag, wrong, NoHeader { place })
+        each_tag(&rt, before, &WHITE, marks, |tag| {
+            let place = tag.before.len();
+            tag.is_another(&rt, NoHeader { place })
         })?;
     }
     for (before, marks) in &BEFORE_VISIT {
-        each_tag(&rt, before, &WHITE, marks, |before, tag, wrong| {
-            let place = before.len();
-            stands_for_another(&rt, before, tag, wrong, NoVisit { place })
+        each_tag(&rt, before, &WHITE, marks, |tag| {
+            let place = tag.before.len();
+            tag.is_another(&rt, NoVisit { place })
         })?;
     }
     Ok(())
@@ -281,9 +302,11 @@ fn tags_outside_of_values(rt: HostRuntime) -> Result<(), Fail> {
 
 #[test]
 fn tags_in_values(rt: HostRuntime) -> Result<(), Fail> {
-    for (before, marks) in &IN_VALUES {
-        each_tag(&rt, before, &[b""], marks, |before, tag, wrong| {
-            stands_wrong(&rt, before, tag, wrong, cause_in_value(wrong))
+    let rt = &rt;
+    for &(before, marks, opening, closing) in &IN_VALUES {
+        each_tag(rt, before, &[b""], marks, move |tag| {
+            let closes = tag.text.starts_with(b"</");
+            tag.is_wrong(rt, if closes { closing } else { opening })
         })?;
     }
     Ok(())
@@ -293,7 +316,12 @@ fn tags_in_values(rt: HostRuntime) -> Result<(), Fail> {
 fn like_tags(rt: HostRuntime) -> Result<(), Fail> {
     for (before, text, wrong) in &LIKE_TAGS {
         let before = [DECLARATION, before].concat(rt.alloc())?;
-        breaks(&rt, before.as_slice(), text, *wrong, Elsewhere)?;
+        let standing = Standing {
+            before: before.as_slice(),
+            text,
+            wrong: *wrong,
+        };
+        standing.breaks(&rt, Elsewhere)?;
     }
     Ok(())
 }

@@ -1,4 +1,4 @@
-// What is answered to a line, and that as text.
+// What is answered to a line, and how that is written.
 ghost use Rattle.std.specs.Prelude.{◌≡◌, Some, Ok, Err};
 ghost use Rattle.visits.specs.Answers.{Answers, reply_to, wording};
 ghost use Rattle.visits.specs.Lines.{text};
@@ -61,3 +61,18 @@ impl fmt::Display for NoDay {
 }
 
 impl Error for NoDay {}
+
+// An answer as it is printed, whichever of the two it is. A type of its own, since a `Result` can be given no `Display` here.
+#[derive(Clone, Copy)]
+pub struct Line(pub Answer);
+
+impl fmt::Display for Line {
+    ghost output = { λ line. Some (wording line.0) };
+
+    fn fmt<W: fmt::Write>(&self, f: &mut fmt::Formatter<W>) -> fmt::Result {
+        match self.0 {
+            Ok(due) => write!(f, "{due}"),
+            Err(no_day) => write!(f, "{no_day}"),
+        }
+    }
+}

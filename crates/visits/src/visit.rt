@@ -17,11 +17,12 @@ pub enum Visit {
 }
 
 impl Visit {
-    // The visit that seven or thirteen digits write.
+    // The visit that seven or thirteen digits write. No `TryFrom`, as for a day.
     pub fn read(text: &[u8]) -> Option<Visit>
         ensures value { option_map (λ v. date_of (day_of v)) result ≡ date_on text.now }
         ensures exact { Reads written_visit text.now result }
     {
+        // A match, and no `map` with `or_else`: two closures in a row are no plainer than the two cases.
         match Day::read(text) {
             Some(day) => Some(Visit::On(day)),
             None => Moment::read(text).map(Visit::At),

@@ -3,29 +3,21 @@
 
 #[cfg(test)]
 mod tests {
-    use std::alloc::{AllocError, AllocGlobal, Global};
+    use std::alloc::{AllocError, Global};
     use std::process::Abort;
     use std::test::Fail;
-    use visits::answer::Answer;
+    use visits::answer::Line;
     use visits::session::Session;
-
-    // The answer, with a bar behind it.
-    fn put(out: &mut String, answer: Answer) -> Result<(), AllocError> {
-        match answer {
-            Ok(due) => write!(out, "{due}|"),
-            Err(no_day) => write!(out, "{no_day}|"),
-        }
-    }
 
     fn report(alloc: Global, stream: &[u8]) -> Result<String, AllocError> {
         let mut session = Session::new(alloc)?;
         let mut out = String::new(alloc);
         for answer in stream.iter().filter_map(|&byte| session.feed(byte)) {
-            put(&mut out, answer)?;
+            write!(out, "{}|", Line(answer))?;
         }
         let (last, tally) = session.finish();
         if let Some(answer) = last {
-            put(&mut out, answer)?;
+            write!(out, "{}|", Line(answer))?;
         }
         write!(out, "{tally}")?;
         Ok(out)
