@@ -4,7 +4,9 @@
 --     plain               a printable ASCII byte but for < > & " '
 --     lead, trail         the first and the second byte of a Big5 pair
 --     capital             A to Z
+--     is_sign             A to Z and 0 to 9, the characters of senders and identifiers
 use Rattle.std.specs.Prelude.{ℕ, Bool, ◌&&◌, ◌||◌, ◌==◌, nat_le}
+use Rattle.calendar.specs.Digits.{is_digit}
 
 abbrev pub within : ℕ → ℕ → ℕ → Bool
 within low high b = nat_le low b && nat_le b high
@@ -23,3 +25,6 @@ trail b = within 0x40 0x7e b || within 0xa1 0xfe b
 
 abbrev pub capital : ℕ → Bool
 capital b = within 65 90 b
+
+abbrev pub is_sign : ℕ → Bool
+is_sign b = capital b || is_digit b

@@ -1,7 +1,8 @@
 // The classes of bytes.
 ghost use Rattle.std.specs.Prelude.{◌≡◌};
 ghost use Rattle.calendar.specs.Digits.{is_digit};
-ghost use Rattle.grammar.specs.Bytes.{white, plain, lead, trail, capital};
+ghost use Rattle.std.specs.List.{list_all};
+ghost use Rattle.grammar.specs.Bytes.{white, plain, lead, trail, capital, is_sign};
 
 pub fn is_white(b: u8) -> bool
     ensures { result ≡ white b }
@@ -37,4 +38,17 @@ pub fn is_digit(b: u8) -> bool
     ensures { result ≡ is_digit b }
 {
     b.is_ascii_digit()
+}
+
+// Whether the byte may stand in a sender or an identifier.
+pub fn is_sign(b: u8) -> bool
+    ensures { result ≡ is_sign b }
+{
+    is_capital(b) || is_digit(b)
+}
+
+pub fn are_signs(bytes: &[u8]) -> bool
+    ensures { result ≡ list_all is_sign bytes.now }
+{
+    bytes.iter().all(|b| is_sign(*b))
 }

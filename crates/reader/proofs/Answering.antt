@@ -26,7 +26,7 @@ use Rattle.reader.specs.declared.faults.Cause.TheVariants as cause
 use Rattle.reader.specs.declared.faults.TagFault.{TagFault}
 use Rattle.reader.specs.declared.faults.TagFault.TheVariants as tag
 use Rattle.reader.specs.declared.faults.Refusal.{Refusal}
-use Rattle.reader.specs.declared.faults.Refusal.TheVariants.{Length, Declaration, Unlawful, NoHeader, NoVisit, CutShort, Foreign, TooMany, Call}
+use Rattle.reader.specs.declared.faults.Refusal.TheVariants.{Length, Declaration, Unlawful, NoHeader, NoVisit, CutShort, Foreign, TooMany, Call, Row}
 use Rattle.reader.proofs.Texts.{departs_not}
 use Rattle.reader.proofs.Halting.{Halts, off, reached_run, fails_halts}
 use Rattle.reader.proofs.Verdicts.{first_wrong, ends, stands_declared, fails_caused}
@@ -79,6 +79,7 @@ module _ (u : List ℕ) (at : ℕ) (l : at < length u) where
   stops_law (Foreign k) s h x = absurd x
   stops_law (TooMany k) s h x = absurd x
   stops_law Call s h x = absurd x
+  stops_law (Row k) s h x = absurd x
 
 -- where nothing says that another tag must stand, a fault stops the reader
 pub breaks_stops : (u : List ℕ) (at : ℕ) (s : Station) → Suits u at s → (f : TagFault) → Breaks u at s f → Stops u at s (tag_to_refusal f)
@@ -121,3 +122,4 @@ undeclared_law u (CutShort k) x = absurd x
 undeclared_law u (Foreign k) x = absurd x
 undeclared_law u (TooMany k) x = absurd x
 undeclared_law u Call x = absurd x
+undeclared_law u (Row k) x = absurd x

@@ -25,7 +25,7 @@ use Rattle.reader.specs.declared.stations.Station.{Station}
 use Rattle.reader.specs.declared.stations.Station.TheVariants.{Between, Opened, Filled}
 use Rattle.reader.specs.declared.faults.Cause.{Cause}
 use Rattle.reader.specs.declared.faults.Refusal.{Refusal}
-use Rattle.reader.specs.declared.faults.Refusal.TheVariants.{Length, Declaration, Unlawful, NoHeader, NoVisit, CutShort, Foreign, TooMany, Call}
+use Rattle.reader.specs.declared.faults.Refusal.TheVariants.{Length, Declaration, Unlawful, NoHeader, NoVisit, CutShort, Foreign, TooMany, Call, Row}
 
 abbrev pub may_end : Station → Bool
 may_end (Between s) = is_done s
@@ -106,6 +106,7 @@ Undeclared u (CutShort k) = ⊥
 Undeclared u (Foreign k) = ⊥
 Undeclared u (TooMany k) = ⊥
 Undeclared u Call = ⊥
+Undeclared u (Row k) = ⊥
 
 abbrev pub Suits : List ℕ → ℕ → Station → Type 0
 Suits u at (Between s) = Fitting u at s
@@ -127,3 +128,4 @@ Stops u at s (CutShort k) = (k ≡ length u) × ((c : Cause) × Fails u at s c k
 Stops u at s (Foreign k) = ⊥
 Stops u at s (TooMany k) = ⊥
 Stops u at s Call = ⊥
+Stops u at s (Row k) = ⊥

@@ -13,7 +13,7 @@ use Rattle.grammar.specs.declared.states.Tag.{Tag}
 use Rattle.grammar.specs.declared.states.Tag.TheVariants.{Open}
 use Rattle.reader.specs.Spans.{Spans}
 use Rattle.reader.specs.declared.faults.Refusal.{Refusal}
-use Rattle.reader.specs.declared.faults.Refusal.TheVariants.{Length, Declaration, Unlawful, NoHeader, NoVisit, CutShort, Foreign, TooMany, Call}
+use Rattle.reader.specs.declared.faults.Refusal.TheVariants.{Length, Declaration, Unlawful, NoHeader, NoVisit, CutShort, Foreign, TooMany, Call, Row}
 
 abbrev pub TagStands : List ℕ → ℕ → Tag → Type 0
 TagStands u at t = Spans u at (spelling t) (at + length (spelling t))
@@ -37,3 +37,4 @@ Misplaced u at s (CutShort k) = ⊥
 Misplaced u at s (Foreign k) = ⊥
 Misplaced u at s (TooMany k) = ⊥
 Misplaced u at s Call = ⊥
+Misplaced u at s (Row k) = ⊥

@@ -1,4 +1,4 @@
--- The refusals of whole uploads by number, cause and place, and how a fault becomes one. Assumes nothing.
+-- The refusals of whole uploads, and of code lists, by number, cause and place, and how a fault becomes one. Assumes nothing.
 --     number_of r            the number of a refusal
 --     cause_of r             its cause: none, unless the upload is unlawful
 --     place_of r             its place: none for a length or a call
@@ -16,7 +16,7 @@ use Rattle.reader.specs.declared.faults.CharacterFault.TheVariants as character
 use Rattle.reader.specs.declared.faults.TagFault.{TagFault}
 use Rattle.reader.specs.declared.faults.TagFault.TheVariants as tag
 use Rattle.reader.specs.declared.faults.Refusal.{Refusal}
-use Rattle.reader.specs.declared.faults.Refusal.TheVariants.{Length, Declaration, Unlawful, NoHeader, NoVisit, CutShort, Foreign, TooMany, Call}
+use Rattle.reader.specs.declared.faults.Refusal.TheVariants.{Length, Declaration, Unlawful, NoHeader, NoVisit, CutShort, Foreign, TooMany, Call, Row}
 
 abbrev pub cause_number : Cause → ℕ
 cause_number Value = 1
@@ -33,6 +33,7 @@ number_of (CutShort place) = 6
 number_of (Foreign place) = 7
 number_of (TooMany place) = 8
 number_of Call = 9
+number_of (Row place) = 10
 
 abbrev pub cause_of : Refusal → Option Cause
 cause_of (Unlawful cause place) = Some cause
@@ -48,6 +49,7 @@ place_of (CutShort place) = Some place
 place_of (Foreign place) = Some place
 place_of (TooMany place) = Some place
 place_of Call = None
+place_of (Row place) = Some place
 
 abbrev pub told_cause : Refusal → ℕ
 told_cause r = unwrap_or (option_map cause_number (cause_of r)) 0

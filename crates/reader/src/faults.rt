@@ -40,7 +40,7 @@ pub enum TagFault {
     Ended { place: usize },
 }
 
-// Why an upload goes back whole, and the place. Numbered as the format numbers them.
+// Why an upload goes back whole, or the relay's own code lists do, and the place. Numbered as the format numbers them.
 #[derive(Clone, Copy, PartialEq, Eq, Debug)]
 pub enum Refusal {
     // 1: no bytes, or too many
@@ -61,6 +61,8 @@ pub enum Refusal {
     TooMany { place: usize },
     // 9: the relay's own call is wrong
     Call,
+    // 10: a row of the relay's own code lists is wrong; rows count from 0
+    Row { place: usize },
 }
 
 impl From<CharacterFault> for TagFault {
@@ -103,6 +105,7 @@ impl Refusal {
             Refusal::Foreign { .. } => 7,
             Refusal::TooMany { .. } => 8,
             Refusal::Call => 9,
+            Refusal::Row { .. } => 10,
         }
     }
 
@@ -126,7 +129,8 @@ impl Refusal {
             | Refusal::NoVisit { place }
             | Refusal::CutShort { place }
             | Refusal::Foreign { place }
-            | Refusal::TooMany { place } => Some(place),
+            | Refusal::TooMany { place }
+            | Refusal::Row { place } => Some(place),
         }
     }
 }

@@ -3,16 +3,14 @@
 --     call_of c                 what a call hands over
 --     least_rows                a call lends at least so many verdict rows: as many as an upload may have records
 --     most_bytes                the greatest length of an upload
---     is_sign b                 whether the byte is one of A to Z and 0 to 9
---     is_sender bs              whether the bytes are ten of these
+--     is_sender bs              whether the bytes are ten of A to Z and 0 to 9
 --     right_day c               the receipt day, if the call is right: sender and day are, and the rows suffice
 --     right_length u            whether an upload has a length within the limits
 use Rattle.std.specs.Prelude.{ℕ, Bool, ◌&&◌, ◌||◌, if◌then◌else◌, List, length, Option, None, ◌==◌, nat_le}
 use Rattle.std.specs.List.{list_all}
 use Rattle.calendar.specs.Calendar.{Date}
-use Rattle.calendar.specs.Digits.{is_digit}
 use Rattle.calendar.specs.Written.{date_in}
-use Rattle.grammar.specs.Bytes.{capital}
+use Rattle.grammar.specs.Bytes.{is_sign}
 use Rattle.uploads.specs.declared.calls.Call.{Call}
 
 pub record Told : Type 0 where
@@ -29,9 +27,6 @@ least_rows = 4096
 
 abbrev pub most_bytes : ℕ
 most_bytes = 1048576
-
-abbrev pub is_sign : ℕ → Bool
-is_sign b = capital b || is_digit b
 
 abbrev pub is_sender : List ℕ → Bool
 is_sender bs = length bs == 10 && list_all is_sign bs

@@ -1,26 +1,13 @@
 // Whether a call is right, before the upload is looked at.
 ghost use Rattle.std.specs.Prelude.{◌≡◌, length};
-ghost use Rattle.std.specs.List.{list_all};
 ghost use Rattle.std.specs.Option.{option_map};
 ghost use Rattle.calendar.specs.Days.{date_of};
 ghost use Rattle.calendar.specs.Written.{date_in};
-ghost use Rattle.uploads.specs.Calls.{is_sign, is_sender, call_of, right_day, right_length};
+ghost use Rattle.uploads.specs.Calls.{is_sender, call_of, right_day, right_length};
 
 use crate::calls::{Call, LEAST_ROWS, MOST_BYTES};
 use calendar::day::Day;
-use grammar::bytes::{is_capital, is_digit};
-
-fn is_sign(b: u8) -> bool
-    ensures { result ≡ is_sign b }
-{
-    is_capital(b) || is_digit(b)
-}
-
-fn are_signs(bytes: &[u8]) -> bool
-    ensures { result ≡ list_all is_sign bytes.now }
-{
-    bytes.iter().all(|b| is_sign(*b))
-}
+use grammar::bytes::are_signs;
 
 // Whether the bytes are a sender: ten of A to Z and 0 to 9.
 pub fn is_sender(bytes: &[u8]) -> bool

@@ -33,6 +33,7 @@ const REFUSALS: [(Refusal, Told); 11] = [
     (Refusal::Foreign { place: 84 }, (7, None, Some(84))),
     (Refusal::TooMany { place: 11063 }, (8, None, Some(11063))),
     (Refusal::Call, (9, None, None)),
+    (Refusal::Row { place: 5 }, (10, None, Some(5))),
 ];
 
 fn told(refusal: Refusal) -> Told {

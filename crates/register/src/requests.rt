@@ -1,0 +1,45 @@
+// Requests to a register of any kind, each with its reply.
+ghost use Rattle.register.specs.Requests.{Answers, Served};
+
+use crate::entry::Entry;
+use crate::key::Key;
+use crate::register::{Full, Register};
+
+#[derive(Clone, Copy)]
+pub enum Request {
+    LookUp { key: Key },
+    Put { key: Key, entry: Entry },
+    Remove { key: Key },
+    IsDispensedElsewhere { key: Key },
+    IsTakenElsewhere { key: Key, refill: u8, own: Key },
+}
+
+#[derive(Clone, Copy, PartialEq, Eq, Debug)]
+pub enum Reply {
+    Entry(Option<Entry>),
+    Put(Result<(), Full>),
+    Bool(bool),
+}
+
+// The right reply to a request. `serve` adds that no other is right.
+fn answer<R: Register>(register: &mut R, request: Request) -> Reply
+    ensures { Answers (R.contents register.old) request result (R.contents register.new) }
+{
+    match request {
+        Request::LookUp { key } => Reply::Entry(register.look_up(&key)),
+        Request::Put { key, entry } => Reply::Put(register.put(key, entry)),
+        Request::Remove { key } => Reply::Bool(register.remove(&key)),
+        Request::IsDispensedElsewhere { key } => Reply::Bool(register.is_dispensed_elsewhere(&key)),
+        Request::IsTakenElsewhere { key, refill, own } => {
+            Reply::Bool(register.is_taken_elsewhere(&key, refill, &own))
+        }
+    }
+}
+
+// Does what is asked of a register, of any kind: reply and contents are the right ones, and no others are right.
+#[tactic(auto, using(crate::proofs::OneAnswer::served))]
+pub fn serve<R: Register>(register: &mut R, request: Request) -> Reply
+    ensures { Served (R.contents register.old) request result (R.contents register.new) }
+{
+    answer(register, request)
+}
