@@ -1,2 +1,3 @@
 pub mod Sameness
 mod OneAnswer
+pub mod Holding

@@ -1,16 +1,18 @@
 -- What a register holds: a finite table from keys to entries, and a greatest count. Assumes nothing.
 --     Contents              the entry at each key, how many keys have one, and how many may
 --     IsFinite c            the count is the number of the keys that have an entry, and no greater than the greatest count
+--     held es n             the entries es, of which no two have the same key, where n may be
 --     empty n               nothing, and n entries may come
+--     begun n               what a register for n entries begins with: it is empty, and of more than 65,536 as many may come
 --     has_room c k          an entry may be put under k: one stands there, or the greatest count is not reached
 --     put_answer c k        what a put under k is answered
 --     put_in c k e          c after e is put under k: as it was, if it has no room for it
 --     without c k           c without the entry under k
 --     DispensedElsewhere c k   an entry with the origin k stands under a key other than k
 --     TakenElsewhere c k n j   the refill n of k is taken under a key other than j
-use Rattle.std.specs.Prelude.{◌≡◌, ◌≢◌, ℕ, ◌+◌, ◌-◌, ◌≤◌, Bool, if◌then◌else◌, ◌||◌, List, length, Option, Some, None, is_some, IsSomeAnd, nat_lt, Result, Ok, Err}
+use Rattle.std.specs.Prelude.{◌≡◌, ◌≢◌, ℕ, ◌+◌, ◌-◌, ◌≤◌, Bool, if◌then◌else◌, ◌||◌, List, length, min, Option, Some, None, is_some, IsSomeAnd, nat_lt, Result, Ok, Err}
 use Rattle.std.specs.List.{IsDistinct, list_any}
-use Rattle.std.specs.Map.{update}
+use Rattle.std.specs.Map.{lookup, update}
 use Rattle.register.specs.Entries.{Takes}
 use Rattle.register.specs.Keys.{same_key}
 use Rattle.register.specs.declared.entry.Entry.{Entry}
@@ -29,8 +31,14 @@ pub record IsFinite (c : Contents) : Type 0 where
   pub counted : c.count ≡ length keys
   pub within : c.count ≤ c.most
 
+abbrev pub held : List (Key × Entry) → ℕ → Contents
+held es n = record { at = λ k. lookup (same_key k) es; count = length es; most = n }
+
 abbrev pub empty : ℕ → Contents
 empty n = record { at = λ _. None; count = 0; most = n }
+
+abbrev pub begun : ℕ → Contents
+begun n = empty (min n 65536)
 
 abbrev pub has_room : Contents → Key → Bool
 has_room c k = is_some (c.at k) || nat_lt c.count c.most

@@ -30,7 +30,7 @@ impl Entry {
     ghost use Rattle.calendar.specs.Days.{date_of};
     ghost use Rattle.calendar.specs.Moments.{stamp_of};
     ghost use Rattle.calendar.specs.Written.{date_in};
-    ghost use Rattle.register.specs.Entries.{source};
+    ghost use Rattle.register.specs.Entries.{source, dispenses, takes_for};
 
     // The birth day, if the digits are those of a day.
     pub fn birth_day(&self) -> Option<Day>
@@ -55,6 +55,20 @@ impl Entry {
             None => Some(own),
             origin => origin,
         }
+    }
+
+    // Whether an entry that stands under `own` has the origin `key`, and `own` is another key.
+    pub fn dispenses(&self, own: &Key, key: &Key) -> bool
+        ensures { result ≡ dispenses key.now own.now self.now }
+    {
+        *own != *key && self.origin == Some(*key)
+    }
+
+    // Whether an entry that stands under `own` takes the refill of `key`, and `own` is another key than `than`.
+    pub fn takes(&self, own: &Key, key: &Key, refill: u8, than: &Key) -> bool
+        ensures { result ≡ takes_for key.now refill than.now own.now self.now }
+    {
+        *own != *than && self.source(*own) == Some(*key) && self.refills.contains(refill)
     }
 }
 

@@ -5,6 +5,9 @@ ghost use Rattle.register.specs.Contents.{Contents, IsFinite, put_in, put_answer
 use crate::entry::Entry;
 use crate::key::Key;
 
+// No kind of register is made for more entries.
+pub const MOST_ENTRIES: usize = 65_536;
+
 // A register that holds as many entries as it may takes no new key.
 #[derive(Clone, Copy, PartialEq, Eq, Debug)]
 pub struct Full;
