@@ -1,8 +1,11 @@
 -- When two keys are the same. Assumes nothing.
-use Rattle.std.proofs.Common.{◌≡◌, ℕ, Bool, true, false, ◌&&◌, List, [], ◌∷◌, Ordering, Equal, sym, refl, ap, ◌∙◌, rules, arith}
+use Rattle.std.proofs.Common.{◌≡◌, ℕ, Bool, true, false, ◌&&◌, List, [], ◌∷◌, Ordering, Equal, sym, refl, ap, ◌∙◌, subst, rules, arith}
 use Rattle.std.proofs.lemmas.Cmp.{on_total, then_total, on_equiv, and_equiv, nat_list_cmp_total, nat_list_eq_equiv, same_from_slice_cmp}
 use Rattle.std.proofs.lemmas.Bool.Decides.{nat_tests}
 use Rattle.std.proofs.lemmas.Slice.Eq.{bytes_eq-Decides}
+use Rattle.std.proofs.lemmas.Map.Keys.{IsDistinct-from_sorted}
+use Rattle.std.specs.List.{IsDistinct}
+use Rattle.std.specs.List.Sorted.{IsStrictlySortedBy}
 use Rattle.std.specs.Cmp.{IsTotalOrder, IsEquivalence}
 use Rattle.std.specs.Cmp.Lexicographic.{slice_cmp}
 use Rattle.std.specs.Ordering.{nat_cmp, is_eq, eq_by_cmp}
@@ -30,3 +33,10 @@ same_by_cmp a b = search (rules, bytes_compared)
 
 pub order_of_keys : OrderOfKeys key_cmp
 order_of_keys = record { total = key_total; same = λ a b h. is_same a b (sym (same_by_cmp a b) ∙ ap is_eq h) }
+
+pub by_cmp : eq_by_cmp key_cmp ≡ same_key
+by_cmp = λ i a b. same_by_cmp a b i
+
+-- keys that rise are distinct
+pub distinct : (ks : List Key) → IsStrictlySortedBy key_cmp ks → IsDistinct same_key ks
+distinct ks s = subst (λ f. IsDistinct f ks) by_cmp (IsDistinct-from_sorted key_cmp ks s)
