@@ -1,5 +1,5 @@
 -- A request to a register has one right reply, and leaves one thing. Assumes nothing.
-use Rattle.std.proofs.Common.{◌≡◌, Bool, true, false, sym, refl, ap, ◌∙◌, rules}
+use Rattle.std.proofs.Common.{◌≡◌, Bool, true, false, sym, refl, ap, ◌∙◌, subst, rules}
 use Rattle.std.proofs.lemmas.Bool.{false≢true}
 use Rattle.std.specs.Prelude.{◌↔◌, IsTrue}
 use Rattle.register.specs.Contents.{Contents}
@@ -27,3 +27,6 @@ one_answer c (IsTakenElsewhere k n j) r s d e f g = one_tells c _ r s d e f g
 
 pub served : (c : Contents) (q : Request) (r : Reply) (d : Contents) → Answers c q r d → Served c q r d
 served c q r d right = record { right = right; only = λ s e. one_answer c q r s d e right }
+
+pub alike : {c d : Contents} {q : Request} {r s : Reply} {c' d' : Contents} → Served c q r c' → Served d q s d' → c ≡ d → (r ≡ s) × (c' ≡ d')
+alike {q = q} {s = s} {d' = d'} f g same = let p = f.only s d' (subst (λ x. Answers x q s d') (sym same) g.right) in (sym p.0, sym p.1)

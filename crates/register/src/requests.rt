@@ -1,4 +1,5 @@
 // Requests to a register of any kind, each with its reply.
+ghost use Rattle.std.specs.Prelude.{◌≡◌};
 ghost use Rattle.register.specs.Requests.{Answers, Served};
 
 use crate::entry::Entry;
@@ -42,4 +43,18 @@ pub fn serve<R: Register>(register: &mut R, request: Request) -> Reply
     ensures { Served (R.contents register.old) request result (R.contents register.new) }
 {
     answer(register, request)
+}
+
+// Asks two registers, of any kinds, the same: such as hold the same reply the same, and hold the same afterwards.
+#[tactic(auto, using(crate::proofs::OneAnswer::alike))]
+pub fn serve_both<A: Register, B: Register>(
+    one: &mut A,
+    other: &mut B,
+    request: Request,
+) -> (Reply, Reply)
+    ensures one { Served (A.contents one.old) request result.0 (A.contents one.new) }
+    ensures other { Served (B.contents other.old) request result.1 (B.contents other.new) }
+    ensures alike { A.contents one.old ≡ B.contents other.old → (result.0 ≡ result.1) × (A.contents one.new ≡ B.contents other.new) }
+{
+    (serve(one, request), serve(other, request))
 }
