@@ -1,0 +1,118 @@
+// The register: slots for its keys, and room to spare beside them, so that a search is soon over however many it holds.
+ghost use Rattle.std.proofs.Props.{props};
+ghost use Rattle.std.specs.Prelude.{◌≡◌, ◌+◌, ◌*◌, ◌<◌, IfOk, min, length};
+ghost use Rattle.register.specs.Contents.{empty};
+ghost use Rattle.hash_register.specs.Homes.{home};
+ghost use Rattle.hash_register.specs.Slots.{Ends};
+ghost use Rattle.hash_register.specs.Tables.{IsTable};
+
+use crate::home::home;
+use crate::slots::{Slot, search, vacate};
+use register::entry::Entry;
+use register::key::Key;
+use register::register::{Full, Register};
+use std::alloc::{AllocError, Global};
+
+// The greatest number of keys that a register may hold.
+pub const MOST: usize = 65_536;
+
+#[derive(Drop)]
+pub struct HashRegister {
+    slots: Vec<Slot>,
+    count: usize,
+    most: usize,
+    ghost table: { IsTable most count slots.items } by { Prim.hlevel props },
+}
+
+impl HashRegister {
+    ghost use Rattle.hash_register.specs.Registers.{contents};
+
+    // An empty register for so many keys, or for the greatest number. It asks for memory here, and never again.
+    pub fn new(alloc: Global, slots: usize) -> Result<HashRegister, AllocError>
+        ensures { IfOk result (λ r. contents r ≡ empty (min slots 65536)) }
+    {
+        let most = slots.min(MOST);
+        let slots = vec![in alloc; None; 3 * most + 1]?;
+        Ok(HashRegister {
+            slots,
+            count: 0,
+            most,
+        })
+    }
+
+    // How many homes there are. A key that no home has room for stands in one of the slots after it.
+    fn homes(&self) -> usize
+        ensures { result ≡ 2 * self.now.most + 1 }
+    {
+        2 * self.most + 1
+    }
+
+    // The slot that has the key, or the one that may take it.
+    fn find(&self, key: &Key) -> usize
+        ensures ends { Ends self.now.slots.items (home (2 * self.now.most + 1) key.now) key.now result }
+        ensures within { result < length self.now.slots.items }
+    {
+        search(&self.slots, home(key, self.homes()), key)
+    }
+}
+
+impl Register for HashRegister {
+    ghost use Rattle.hash_register.specs.Registers.{contents, finite};
+
+    ghost contents = { contents };
+
+    ghost finite = { finite };
+
+    fn look_up(&self, key: &Key) -> Option<Entry> {
+        self.slots[self.find(key)].map(|(_, entry)| entry)
+    }
+
+    fn put(&mut self, key: Key, entry: Entry) -> Result<(), Full> {
+        let place = self.find(&key);
+        if self.slots[place].is_none() {
+            if self.count == self.most {
+                return Err(Full);
+            }
+            self.count += 1;
+        }
+        self.slots[place] = Some((key, entry));
+        Ok(())
+    }
+
+    fn remove(&mut self, key: &Key) -> bool {
+        let place = self.find(key);
+        if self.slots[place].is_none() {
+            return false;
+        }
+        let homes = self.homes();
+        vacate(&mut self.slots, place, homes);
+        self.count -= 1;
+        true
+    }
+
+    fn is_dispensed_elsewhere(&self, key: &Key) -> bool {
+        self.slots.iter().any(|slot| is_dispensed(slot, key))
+    }
+
+    fn is_taken_elsewhere(&self, key: &Key, refill: u8, own: &Key) -> bool {
+        self.slots
+            .iter()
+            .any(|slot| is_taken(slot, key, refill, own))
+    }
+}
+
+fn is_dispensed(slot: &Slot, key: &Key) -> bool {
+    match slot {
+        Some((own, entry)) => own != key && entry.origin == Some(*key),
+        None => false,
+    }
+}
+
+fn is_taken(slot: &Slot, key: &Key, refill: u8, own: &Key) -> bool {
+    match slot {
+        Some((other, entry)) => other != own
+            && entry.source(*other) == Some(*key)
+            && entry.refills.contains(refill),
+        None => false,
+    }
+}
