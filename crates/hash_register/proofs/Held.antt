@@ -1,7 +1,7 @@
 -- What slots hold, before and after one of them is written. Assumes nothing.
-use Rattle.std.proofs.Common.{◌≡◌, ◌≢◌, ℕ, zero, suc, ◌+◌, ◌<◌, ◌≤◌, Bool, true, false, cond, List, [], ◌∷◌, ◌++◌, length, slice_set, Option, Some, None, is_some, sym, refl, ap, ◌∙◌, subst, rules, arith}
+use Rattle.std.proofs.Common.{◌≡◌, ◌≢◌, ℕ, zero, suc, ◌+◌, ◌<◌, ◌≤◌, Bool, true, false, cond, List, [], ◌∷◌, ◌++◌, length, slice_index_or, slice_set, Option, Some, None, is_some, IsSomeAnd, ◌↔◌, sym, refl, ap, ◌∙◌, subst, arith}
 use Rattle.std.proofs.lemmas.Bool.{false≢true}
-use Rattle.std.proofs.lemmas.List.{set-get_or}
+use Rattle.std.proofs.lemmas.List.{set-get_or, get_or_default}
 use Rattle.std.proofs.lemmas.List.Sorted.{IsPermutation-refl, IsPermutation-sym, IsPermutation-cons, IsPermutation-trans, IsPermutation-middle, IsPermutation-map, length_permutation, Contains-permutation, list_any-IsPermutation}
 use Rattle.std.proofs.lemmas.Map.{NonePasses, lookup-none, none_passes_from_lookup, update_same, update_other}
 use Rattle.std.proofs.lemmas.Map.Entries.{none_past_head}
@@ -9,7 +9,7 @@ use Rattle.std.proofs.lemmas.Map.Keys.{IsDistinct-IsPermutation, IsDistinct-tail
 use Rattle.std.proofs.lemmas.Map.Made.{is_some-lookup}
 use Rattle.std.proofs.lemmas.Map.Views.{lookup-from_Contains, Contains-from_lookup}
 use Rattle.std.proofs.lemmas.Option.{none-some, same_Some}
-use Rattle.std.specs.List.{IsDistinct, AllByRecursion}
+use Rattle.std.specs.List.{IsDistinct, AllByRecursion, Any}
 use Rattle.std.specs.List.Sorted.{IsPermutation}
 use Rattle.std.specs.Map.{lookup, keys_of, update}
 use Rattle.std.specs.Option.{option_to_list}
@@ -43,9 +43,9 @@ parted_empty xs i is = ap (slice_set xs i) (sym is) ∙ set-get_or xs i None
 
 -- ---- what is found
 
-is_none : (o : Option Entry) → is_some o ≡ false → o ≡ None
-is_none None h = refl
-is_none (Some e) h = absurd (false≢true (sym h))
+pub is_nothing : (o : Option Entry) → is_some o ≡ false → o ≡ None
+is_nothing None h = refl
+is_nothing (Some e) h = absurd (false≢true (sym h))
 
 distinct_permutation : (es fs : List (Key × Entry)) → IsPermutation es fs → IsDistinct same_key (keys_of es) → IsDistinct same_key (keys_of fs)
 distinct_permutation es fs p = IsDistinct-IsPermutation same_key same_equiv.symm _ _ (IsPermutation-map (λ (r : Key × Entry). r.0) es fs p)
@@ -54,7 +54,7 @@ at_permutation : (es fs : List (Key × Entry)) → IsPermutation es fs → IsDis
 at_permutation es fs p d q = go (at es q) refl
   where
     go : (o : Option Entry) → at es q ≡ o → at fs q ≡ o
-    go None h = is_none _ (is_some-lookup (same_key q) fs ∙ sym (list_any-IsPermutation (same_key q) _ _ (IsPermutation-map (λ (r : Key × Entry). r.0) es fs p)) ∙ sym (is_some-lookup (same_key q) es) ∙ ap is_some h)
+    go None h = is_nothing _ (is_some-lookup (same_key q) fs ∙ sym (list_any-IsPermutation (same_key q) _ _ (IsPermutation-map (λ (r : Key × Entry). r.0) es fs p)) ∙ sym (is_some-lookup (same_key q) es) ∙ ap is_some h)
     go (Some e) h = lookup-from_Contains same_equiv q e fs d (Contains-permutation es fs (q, e) p (Contains-from_lookup is_same q e es h))
 
 apart : (k : Key) (es : List (Key × Entry)) → NonePasses (same_key k) es → AllByRecursion (λ y. same_key k y ≡ false) (keys_of es)
@@ -115,3 +115,27 @@ filled_from (None ∷ xs) (suc a) h = omega (arith, filled_from xs a (λ i l m. 
 filled_from (Some r ∷ xs) (suc a) h = omega (arith, filled_from xs a (λ i l m. h (suc i) (omega arith) (omega arith)))
 filled_from (None ∷ xs) zero h = absurd (false≢true (h 0 (omega arith) (omega arith)))
 filled_from (Some r ∷ xs) zero h = omega (arith, filled_from xs zero (λ i l m. h (suc i) (omega arith) (omega arith)))
+
+-- a key other than j with its entry has P
+pub elsewhere : (xs : List Slot) → IsDistinct same_key (keys_of (held xs)) → (j : Key) (P : Key → Entry → Type 0) → Any (λ s. IsSomeAnd s (λ r. (r.0 ≢ j) × P r.0 r.1)) xs ↔ (k : Key) × (k ≢ j) × IsSomeAnd (at (held xs) k) (P k)
+elsewhere xs d j P = (there, back)
+  where
+    there : Any (λ s. IsSomeAnd s (λ r. (r.0 ≢ j) × P r.0 r.1)) xs → (k : Key) × (k ≢ j) × IsSomeAnd (at (held xs) k) (P k)
+    there (i, s, l, is, h) = go s (get_or_default xs i None s l ∙ is) h
+      where
+        go : (s : Slot) → slot xs i ≡ s → IsSomeAnd s (λ r. (r.0 ≢ j) × P r.0 r.1) → (k : Key) × (k ≢ j) × IsSomeAnd (at (held xs) k) (P k)
+        go None is h = absurd h
+        go (Some r) is (other, p) = (r.0, other, subst (λ o. IsSomeAnd o (P r.0)) (sym (present xs i r.0 r.1 d is)) p)
+
+    back : (k : Key) × (k ≢ j) × IsSomeAnd (at (held xs) k) (P k) → Any (λ s. IsSomeAnd s (λ r. (r.0 ≢ j) × P r.0 r.1)) xs
+    back (k, other, h) = go (at (held xs) k) refl h
+      where
+        go : (o : Option Entry) → at (held xs) k ≡ o → IsSomeAnd o (P k) → Any (λ s. IsSomeAnd s (λ r. (r.0 ≢ j) × P r.0 r.1)) xs
+        go None is h = absurd h
+        go (Some e) is h = let (i, at_i) = place xs k e is in let l = within xs i (k, e) at_i in (i, Some (k, e), l, get_or_default xs i (Some (k, e)) None l ∙ at_i, (other, h))
+
+pub read : (xs : List Slot) (i : ℕ) (s : Slot) → i < length xs → s ≡ slice_index_or xs i s → s ≡ slot xs i
+read xs i s l is = is ∙ get_or_default xs i s None l
+
+pub read_some : (xs : List Slot) (i : ℕ) (s : Slot) (b : Bool) → i < length xs → s ≡ slice_index_or xs i s → is_some s ≡ b → is_some (slot xs i) ≡ b
+read_some xs i s b l is h = ap is_some (sym (read xs i s l is)) ∙ h

@@ -1,10 +1,8 @@
 -- What stands in one slot, put into an earlier one. Assumes nothing.
-use Rattle.std.proofs.Common.{◌≡◌, ◌≢◌, ℕ, ◌<◌, ◌≤◌, true, List, ◌∷◌, length, slice_set, Some, None, is_some, IsSomeAnd, sym, refl, ap, ◌∙◌, subst, rules, arith}
+use Rattle.std.proofs.Common.{◌≡◌, ◌≢◌, ℕ, ◌<◌, ◌≤◌, true, List, ◌∷◌, length, slice_set, Some, None, is_some, IsSomeAnd, sym, refl, ap, ◌∙◌, subst, arith}
 use Rattle.std.proofs.lemmas.List.{set_comm, get_or-set_other, length-set}
 use Rattle.std.proofs.lemmas.List.Sorted.{IsPermutation-sym, IsPermutation-trans}
 use Rattle.std.specs.List.Sorted.{IsPermutation}
-use Rattle.register.specs.declared.entry.Entry.{Entry}
-use Rattle.register.specs.declared.key.Key.{Key}
 use Rattle.hash_register.proofs.Held.{parted, parted_here, within}
 use Rattle.hash_register.proofs.Reached.{filled_reached}
 use Rattle.hash_register.specs.Homes.{home}

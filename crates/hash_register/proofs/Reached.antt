@@ -1,5 +1,5 @@
 -- What a write leaves of the ways to the keys. Assumes nothing.
-use Rattle.std.proofs.Common.{◌≡◌, ◌≢◌, ℕ, ◌<◌, ◌≤◌, Bool, true, false, List, length, slice_set, ◌⊎◌, inl, inr, Some, None, is_some, IsSomeAnd, sym, refl, ap, ◌∙◌, subst, rules, arith}
+use Rattle.std.proofs.Common.{◌≡◌, ◌≢◌, ℕ, ◌<◌, ◌≤◌, true, List, length, slice_set, ◌⊎◌, inl, inr, Some, None, is_some, IsSomeAnd, sym, refl, ap, ◌∙◌, subst, arith}
 use Rattle.std.proofs.lemmas.Bool.{cases_eq, false≢true}
 use Rattle.std.proofs.lemmas.Option.{none-some, some_pair_parts}
 use Rattle.std.proofs.lemmas.List.{get_or-set_same, get_or-set_other}
@@ -15,7 +15,7 @@ module _ (xs : List Slot) (i : ℕ) (n : ℕ) (reached : IsReached n xs) (l : i 
     kept_run a b r = record {
       ordered = r.ordered;
       filled = λ j f g. elim (cases_eq j i) as (λ _. is_some (slot (slice_set xs i (Some (k, e))) j) ≡ true) [
-        inl is ↦ ap (λ x. is_some (slot (slice_set xs i (Some (k, e))) x)) is ∙ ap is_some (get_or-set_same xs i (Some (k, e)) None l)
+        | inl is ↦ ap (λ x. is_some (slot (slice_set xs i (Some (k, e))) x)) is ∙ ap is_some (get_or-set_same xs i (Some (k, e)) None l)
         | inr no_t ↦ ap is_some (get_or-set_other xs i j (Some (k, e)) None no_t) ∙ r.filled j f g
       ];
     }
@@ -41,7 +41,7 @@ module _ (xs : List Slot) (i : ℕ) (n : ℕ) (reached : IsReached n xs) (l : i 
           record {
             ordered = run.ordered;
             filled = λ j from to. elim (cases_eq j i) as (λ _. is_some (slot (slice_set xs i None) j) ≡ true) [
-              inl at ↦ absurd (none p (omega arith, subst (λ s. IsSomeAnd s (λ r. home n r.0 ≤ i)) (sym was) (omega arith)))
+              | inl at ↦ absurd (none p (omega arith, subst (λ s. IsSomeAnd s (λ r. home n r.0 ≤ i)) (sym was) (omega arith)))
               | inr off ↦ ap is_some (get_or-set_other xs i j None None off) ∙ run.filled j from to
             ];
           }
@@ -53,6 +53,6 @@ past_empty xs n g i j reached none l m (_, follows) = go (slot xs j) refl follow
     go : (s : Slot) → slot xs j ≡ s → IsSomeAnd s (λ r. home n r.0 ≤ g) → ⊥
     go None is h = h
     go (Some r) is h = elim (cases_eq i j) [
-      inl at ↦ none-some r (sym none ∙ ap (slot xs) at ∙ is)
+      | inl at ↦ none-some r (sym none ∙ ap (slot xs) at ∙ is)
       | inr off ↦ false≢true (ap is_some (sym none) ∙ (reached (j, r.0, r.1) is).filled i (omega arith) (omega arith))
     ]

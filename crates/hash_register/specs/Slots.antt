@@ -7,7 +7,7 @@
 --     Ends xs a k i    a search for k from a on ends at i, the first slot that is empty or has k
 --     Follows n xs g i   the key in the slot i, past g, has its home at g or before it
 --     Vacates n xs g ys  ys holds what xs does, but for what stands in the slot g, and each key is reached
-use Rattle.std.specs.Prelude.{◌≡◌, ◌≢◌, ℕ, ◌<◌, ◌≤◌, Bool, true, false, not, List, ◌∷◌, length, filter_map, Option, Some, None, is_some, IsSomeAnd, slice_index_or}
+use Rattle.std.specs.Prelude.{◌≡◌, ℕ, ◌<◌, ◌≤◌, Bool, true, false, not, List, ◌∷◌, length, filter_map, Option, Some, None, is_some, IsSomeAnd, slice_index_or}
 use Rattle.std.specs.List.Sorted.{IsPermutation}
 use Rattle.register.specs.Keys.{same_key}
 use Rattle.register.specs.declared.entry.Entry.{Entry}

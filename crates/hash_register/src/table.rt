@@ -1,7 +1,8 @@
 // The register: slots for its keys, and room to spare beside them, so that a search is soon over however many it holds.
 ghost use Rattle.std.proofs.Props.{props};
-ghost use Rattle.std.specs.Prelude.{◌≡◌, ◌+◌, ◌*◌, ◌<◌, IfOk, min, length};
+ghost use Rattle.std.specs.Prelude.{◌≡◌, ◌≢◌, ◌↔◌, ◌+◌, ◌*◌, ◌<◌, IfOk, IsTrue, IsSomeAnd, min, length};
 ghost use Rattle.register.specs.Contents.{empty};
+ghost use Rattle.register.specs.Entries.{Takes};
 ghost use Rattle.hash_register.specs.Homes.{home};
 ghost use Rattle.hash_register.specs.Slots.{Ends};
 ghost use Rattle.hash_register.specs.Tables.{IsTable};
@@ -69,13 +70,12 @@ impl Register for HashRegister {
 
     fn put(&mut self, key: Key, entry: Entry) -> Result<(), Full> {
         let place = self.find(&key);
-        if self.slots[place].is_none() {
-            if self.count == self.most {
-                return Err(Full);
-            }
-            self.count += 1;
+        let is_new = self.slots[place].is_none();
+        if is_new && self.count == self.most {
+            return Err(Full);
         }
         self.slots[place] = Some((key, entry));
+        self.count += usize::from(is_new);
         Ok(())
     }
 
@@ -101,14 +101,20 @@ impl Register for HashRegister {
     }
 }
 
-fn is_dispensed(slot: &Slot, key: &Key) -> bool {
+// Whether a key other than `key` stands in the slot, with the origin `key`.
+fn is_dispensed(slot: &Slot, key: &Key) -> bool
+    ensures { IsTrue result ↔ IsSomeAnd slot.now (λ r. (r.0 ≢ key.now) × (r.1.origin ≡ Some key.now)) }
+{
     match slot {
         Some((own, entry)) => own != key && entry.origin == Some(*key),
         None => false,
     }
 }
 
-fn is_taken(slot: &Slot, key: &Key, refill: u8, own: &Key) -> bool {
+// Whether a key other than `own` stands in the slot, and takes the refill of `key`.
+fn is_taken(slot: &Slot, key: &Key, refill: u8, own: &Key) -> bool
+    ensures { IsTrue result ↔ IsSomeAnd slot.now (λ r. (r.0 ≢ own.now) × Takes key.now refill r.0 r.1) }
+{
     match slot {
         Some((other, entry)) => other != own
             && entry.source(*other) == Some(*key)

@@ -1,6 +1,4 @@
-use Rattle.std.proofs.Common.{◌≡◌, Some, None, slice_set, sym, subst, arith}
 use Rattle.std.proofs.lemmas.List.Sorted.{IsPermutation-cons, IsPermutation-trans}
-use Rattle.std.specs.List.Sorted.{IsPermutation}
 use Rattle.hash_register.proofs.Held.{parted_here}
 use Rattle.hash_register.proofs.Moved.{moved}
 use Rattle.hash_register.proofs.Reached.{emptied_reached}
