@@ -1,5 +1,5 @@
 -- A table, where a search in it has ended. Assumes nothing.
-use Rattle.std.proofs.Common.{◌≡◌, ℕ, ◌+◌, ◌-◌, ◌*◌, ◌<◌, ◌≤◌, Bool, true, false, not, cond, ◌||◌, nat_lt, List, length, slice_set, ◌⊎◌, inl, inr, Option, Some, None, is_some, Ok, Err, sym, refl, ap, ◌∙◌, subst, arith}
+use Rattle.std.proofs.Common.{◌≡◌, ℕ, ◌+◌, ◌-◌, ◌<◌, ◌≤◌, Bool, true, false, not, cond, ◌||◌, nat_lt, List, length, slice_set, ◌⊎◌, inl, inr, Option, Some, None, is_some, Ok, Err, sym, refl, ap, ◌∙◌, subst, arith}
 use Rattle.std.proofs.lemmas.Bool.{cases_eq, cases_lt, false≢true, lt-ltb, le-ltb}
 use Rattle.std.proofs.lemmas.List.{length-set}
 use Rattle.std.proofs.lemmas.Map.{update_same}
@@ -14,7 +14,7 @@ use Rattle.register.specs.declared.entry.Entry.{Entry}
 use Rattle.register.specs.declared.key.Key.{Key}
 use Rattle.hash_register.proofs.Held.{at, parted, parted_here, parted_empty, length_more, distinct_more, distinct_rest, absent_rest, at_more, at_less, is_nothing, within, place, filled_from}
 use Rattle.hash_register.proofs.Reached.{filled_reached}
-use Rattle.hash_register.specs.Homes.{home}
+use Rattle.hash_register.specs.Homes.{home, homes}
 use Rattle.hash_register.specs.Slots.{Slot, slot, held, IsRun, is_passed, Ends, Vacates}
 use Rattle.hash_register.specs.Tables.{IsTable, contents_of}
 
@@ -44,14 +44,14 @@ pub record IsRemoved (m c : ℕ) (xs : List Slot) (k : Key) (ys : List Slot) : T
   pub answer : true ≡ is_some (at (held xs) k)
   pub after : contents_of m (c - 1) ys ≡ without (contents_of m c xs) k
 
-module _ (m c : ℕ) (xs : List Slot) (t : IsTable m c xs) (k : Key) (i : ℕ) (f : Ends xs (home (2 * m + 1) k) k i) where
-  pub found_within : home (2 * m + 1) k < 2 * m + 1 → i < length xs
+module _ (m c : ℕ) (xs : List Slot) (t : IsTable m c xs) (k : Key) (i : ℕ) (f : Ends xs (home (homes m) k) k i) where
+  pub found_within : home (homes m) k < homes m → i < length xs
   found_within h = elim (cases_lt i (length xs)) [
     | inl l ↦ l
-    | inr l ↦ absurd (let full = filled_from xs (home (2 * m + 1) k) (λ j from to. passed_filled k (slot xs j) (f.passed j from (omega arith))) in omega (arith, t.size, t.within, t.counted))
+    | inr l ↦ absurd (let full = filled_from xs (home (homes m) k) (λ j from to. passed_filled k (slot xs j) (f.passed j from (omega arith))) in omega (arith, t.size, t.within, t.counted))
   ]
 
-  run : IsRun xs (home (2 * m + 1) k) i
+  run : IsRun xs (home (homes m) k) i
   run = record { ordered = f.ordered; filled = λ j from to. passed_filled k (slot xs j) (f.passed j from to) }
 
   absent : slot xs i ≡ None → at (held xs) k ≡ None
@@ -131,7 +131,7 @@ module _ (m c : ℕ) (xs : List Slot) (t : IsTable m c xs) (k : Key) (i : ℕ) (
         record {
           table = record {
             distinct = d;
-            reached = filled_reached xs i (2 * m + 1) t.reached l k e run;
+            reached = filled_reached xs i (homes m) t.reached l k e run;
             counted = few ∙ sym more;
             within = less;
             small = t.small;
@@ -152,7 +152,7 @@ module _ (m c : ℕ) (xs : List Slot) (t : IsTable m c xs) (k : Key) (i : ℕ) (
             let as_long : length (held xs) ≡ length (held (slice_set xs i None)) + 0 = long ∙ ap (λ b. length (held (slice_set xs i None)) + cond b 1 0) none in
             (ap (λ b. b || nat_lt c m) a ∙ lt-ltb c m less, is ∙ sym (ap (λ b. cond b c (c + 1)) a), omega (arith, t.counted), omega arith)
 
-    pub removed : (ys : List Slot) → is_some (slot xs i) ≡ true → Vacates (2 * m + 1) xs i ys → length ys ≡ length xs → IsRemoved m c xs k ys
+    pub removed : (ys : List Slot) → is_some (slot xs i) ≡ true → Vacates (homes m) xs i ys → length ys ≡ length xs → IsRemoved m c xs k ys
     removed ys some v long = go (slot xs i) refl some
       where
         go : (s : Slot) → slot xs i ≡ s → is_some s ≡ true → IsRemoved m c xs k ys

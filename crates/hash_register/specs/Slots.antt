@@ -1,12 +1,12 @@
 -- Slots, each with a key and its entry or empty. Assumes nothing.
---     slot xs i        what stands in the slot i of xs: nothing past the end
---     held xs          the keys and entries of xs, in the order of the slots
---     IsRun xs a b     no slot from a up to b is empty
---     IsReached n xs   each key stands at its home among n or after it, with no empty slot between
---     is_passed k s    a search for k goes on past s: another key stands there
---     Ends xs a k i    a search for k from a on ends at i, the first slot that is empty or has k
---     Follows n xs g i   the key in the slot i, past g, has its home at g or before it
---     Vacates n xs g ys  ys holds what xs does, but for what stands in the slot g, and each key is reached
+--     slot xs i          what stands in the slot i of xs: nothing past the end
+--     held xs            the keys and entries of xs, in the order of the slots
+--     IsRun xs a b       a is no slot past b, and none from a up to b is empty
+--     IsReached n xs     each key stands at its home among n or after it, with no empty slot between
+--     is_passed k s      a search for k goes on past s: another key stands there
+--     Ends xs a k i      a search for k from a on ends at i, the first slot that is empty or has k
+--     Follows n xs g i   the key in the slot i, past g, has its home among n at g or before it
+--     Vacates n xs g ys  ys has each key of xs with its entry, but for that in the slot g, and each is reached
 use Rattle.std.specs.Prelude.{◌≡◌, ℕ, ◌<◌, ◌≤◌, Bool, true, false, not, List, ◌∷◌, length, filter_map, Option, Some, None, is_some, IsSomeAnd, slice_index_or}
 use Rattle.std.specs.List.Sorted.{IsPermutation}
 use Rattle.register.specs.Keys.{same_key}

@@ -3,11 +3,11 @@ ghost use Rattle.std.proofs.Props.{props};
 ghost use Rattle.std.specs.Prelude.{◌≡◌, ◌≢◌, ◌↔◌, ◌+◌, ◌*◌, ◌<◌, IfOk, IsTrue, IsSomeAnd, min, length};
 ghost use Rattle.register.specs.Contents.{empty};
 ghost use Rattle.register.specs.Entries.{Takes};
-ghost use Rattle.hash_register.specs.Homes.{home};
+ghost use Rattle.hash_register.specs.Homes.{home, homes};
 ghost use Rattle.hash_register.specs.Slots.{Ends};
 ghost use Rattle.hash_register.specs.Tables.{IsTable};
 
-use crate::home::home;
+use crate::home::{home, homes};
 use crate::slots::{Slot, search, vacate};
 use register::entry::Entry;
 use register::key::Key;
@@ -33,7 +33,7 @@ impl HashRegister {
         ensures { IfOk result (λ r. contents r ≡ empty (min slots 65536)) }
     {
         let most = slots.min(MOST);
-        let slots = vec![in alloc; None; 3 * most + 1]?;
+        let slots = vec![in alloc; None; homes(most) + most]?;
         Ok(HashRegister {
             slots,
             count: 0,
@@ -41,19 +41,12 @@ impl HashRegister {
         })
     }
 
-    // How many homes there are. A key that no home has room for stands in one of the slots after it.
-    fn homes(&self) -> usize
-        ensures { result ≡ 2 * self.now.most + 1 }
-    {
-        2 * self.most + 1
-    }
-
     // The slot that has the key, or the one that may take it.
     fn find(&self, key: &Key) -> usize
-        ensures ends { Ends self.now.slots.items (home (2 * self.now.most + 1) key.now) key.now result }
+        ensures ends { Ends self.now.slots.items (home (homes self.now.most) key.now) key.now result }
         ensures within { result < length self.now.slots.items }
     {
-        search(&self.slots, home(key, self.homes()), key)
+        search(&self.slots, home(key, homes(self.most)), key)
     }
 }
 
@@ -84,8 +77,7 @@ impl Register for HashRegister {
         if self.slots[place].is_none() {
             return false;
         }
-        let homes = self.homes();
-        vacate(&mut self.slots, place, homes);
+        vacate(&mut self.slots, place, homes(self.most));
         self.count -= 1;
         true
     }
@@ -105,20 +97,17 @@ impl Register for HashRegister {
 fn is_dispensed(slot: &Slot, key: &Key) -> bool
     ensures { IsTrue result ↔ IsSomeAnd slot.now (λ r. (r.0 ≢ key.now) × (r.1.origin ≡ Some key.now)) }
 {
-    match slot {
-        Some((own, entry)) => own != key && entry.origin == Some(*key),
-        None => false,
-    }
+    matches!(slot, Some((other, entry)) if other != key && entry.origin == Some(*key))
 }
 
-// Whether a key other than `own` stands in the slot, and takes the refill of `key`.
+// Whether a key other than `own` stands in the slot, with an entry that takes the refill of `key`.
 fn is_taken(slot: &Slot, key: &Key, refill: u8, own: &Key) -> bool
     ensures { IsTrue result ↔ IsSomeAnd slot.now (λ r. (r.0 ≢ own.now) × Takes key.now refill r.0 r.1) }
 {
     match slot {
-        Some((other, entry)) => other != own
-            && entry.source(*other) == Some(*key)
-            && entry.refills.contains(refill),
-        None => false,
+        Some((other, entry)) if other != own => {
+            entry.source(*other) == Some(*key) && entry.refills.contains(refill)
+        }
+        _ => false,
     }
 }

@@ -12,7 +12,7 @@ made c =
     let i = c.find-place.result in
     let ys = c.vacate.new.slots in
     let some = read_some s.slots.items i c.index.result.now true c.find-place.ensures.within c.index.ensures c.if-is_none.ensures in
-    let v = subst (λ n. Vacates n s.slots.items i ys) c.homes-homes.ensures (subst (λ xs. Vacates c.homes-homes.result xs i ys) c.deref_mut.ensures.value c.vacate.ensures) in
+    let v = subst (λ n. Vacates n s.slots.items i ys) c.homes.ensures (subst (λ xs. Vacates c.homes.result xs i ys) c.deref_mut.ensures.value c.vacate.ensures) in
     let long : length ys ≡ length s.slots.items = c.vacate.auto.slots ∙ ap length c.deref_mut.ensures.value in
     let whole = ap (λ n. take n (ys ++ drop (length ys) s.slots.items)) (s.slots.ok.0 ∙ sym long) ∙ take-append_seam ys (drop (length ys) s.slots.items) in
     subst (IsRemoved s.most s.count s.slots.items c.args.key.now) (sym whole)
