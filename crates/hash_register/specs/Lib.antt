@@ -1,0 +1,4 @@
+pub mod Homes
+pub mod Slots
+pub mod Tables
+pub mod Registers
