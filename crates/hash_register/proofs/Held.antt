@@ -1,5 +1,5 @@
 -- What slots hold, before and after one of them is written. Assumes nothing.
-use Rattle.std.proofs.Common.{◌≡◌, ◌≢◌, ℕ, zero, suc, ◌+◌, ◌<◌, ◌≤◌, Bool, true, false, cond, List, [], ◌∷◌, ◌++◌, length, slice_index_or, slice_set, Option, Some, None, is_some, IsSomeAnd, ◌↔◌, sym, refl, ap, ◌∙◌, subst, arith}
+use Rattle.std.proofs.Common.{◌≡◌, ℕ, zero, suc, ◌+◌, ◌<◌, ◌≤◌, Bool, true, false, cond, ◌||◌, List, [], ◌∷◌, ◌++◌, length, slice_index_or, slice_set, Option, Some, None, is_some, sym, refl, ap, ◌∙◌, subst, arith}
 use Rattle.std.proofs.lemmas.Bool.{false≢true}
 use Rattle.std.proofs.lemmas.List.{set-get_or, get_or_default}
 use Rattle.std.proofs.lemmas.List.Sorted.{IsPermutation-refl, IsPermutation-sym, IsPermutation-cons, IsPermutation-trans, IsPermutation-middle, IsPermutation-map, length_permutation, Contains-permutation, list_any-IsPermutation}
@@ -9,7 +9,7 @@ use Rattle.std.proofs.lemmas.Map.Keys.{IsDistinct-IsPermutation, IsDistinct-tail
 use Rattle.std.proofs.lemmas.Map.Made.{is_some-lookup}
 use Rattle.std.proofs.lemmas.Map.Views.{lookup-from_Contains, Contains-from_lookup}
 use Rattle.std.proofs.lemmas.Option.{none-some, same_Some}
-use Rattle.std.specs.List.{IsDistinct, AllByRecursion, Any}
+use Rattle.std.specs.List.{IsDistinct, AllByRecursion, list_any}
 use Rattle.std.specs.List.Sorted.{IsPermutation}
 use Rattle.std.specs.Map.{lookup, keys_of, update}
 use Rattle.std.specs.Option.{option_to_list}
@@ -17,7 +17,7 @@ use Rattle.register.proofs.Sameness.{same_equiv, is_same}
 use Rattle.register.specs.Keys.{same_key}
 use Rattle.register.specs.declared.entry.Entry.{Entry}
 use Rattle.register.specs.declared.key.Key.{Key}
-use Rattle.hash_register.specs.Slots.{Slot, slot, held}
+use Rattle.hash_register.specs.Slots.{Slot, slot, held, passes}
 
 abbrev pub at : List (Key × Entry) → Key → Option Entry
 at es k = lookup (same_key k) es
@@ -116,23 +116,11 @@ filled_from (Some r ∷ xs) (suc a) h = omega (arith, filled_from xs a (λ i l m
 filled_from (None ∷ xs) zero h = absurd (false≢true (h 0 (omega arith) (omega arith)))
 filled_from (Some r ∷ xs) zero h = omega (arith, filled_from xs zero (λ i l m. h (suc i) (omega arith) (omega arith)))
 
--- a key other than j with its entry has P
-pub elsewhere : (xs : List Slot) → IsDistinct same_key (keys_of (held xs)) → (j : Key) (P : Key → Entry → Type 0) → Any (λ s. IsSomeAnd s (λ r. (r.0 ≢ j) × P r.0 r.1)) xs ↔ (k : Key) × (k ≢ j) × IsSomeAnd (at (held xs) k) (P k)
-elsewhere xs d j P = (there, back)
-  where
-    there : Any (λ s. IsSomeAnd s (λ r. (r.0 ≢ j) × P r.0 r.1)) xs → (k : Key) × (k ≢ j) × IsSomeAnd (at (held xs) k) (P k)
-    there (i, s, l, is, h) = go s (get_or_default xs i None s l ∙ is) h
-      where
-        go : (s : Slot) → slot xs i ≡ s → IsSomeAnd s (λ r. (r.0 ≢ j) × P r.0 r.1) → (k : Key) × (k ≢ j) × IsSomeAnd (at (held xs) k) (P k)
-        go None is h = absurd h
-        go (Some r) is (other, p) = (r.0, other, subst (λ o. IsSomeAnd o (P r.0)) (sym (present xs i r.0 r.1 d is)) p)
-
-    back : (k : Key) × (k ≢ j) × IsSomeAnd (at (held xs) k) (P k) → Any (λ s. IsSomeAnd s (λ r. (r.0 ≢ j) × P r.0 r.1)) xs
-    back (k, other, h) = go (at (held xs) k) refl h
-      where
-        go : (o : Option Entry) → at (held xs) k ≡ o → IsSomeAnd o (P k) → Any (λ s. IsSomeAnd s (λ r. (r.0 ≢ j) × P r.0 r.1)) xs
-        go None is h = absurd h
-        go (Some e) is h = let (i, at_i) = place xs k e is in let l = within xs i (k, e) at_i in (i, Some (k, e), l, get_or_default xs i (Some (k, e)) None l ∙ at_i, (other, h))
+-- a walk over the slots meets what they hold
+pub walked : (test : Key × Entry → Bool) (xs : List Slot) → list_any (passes test) xs ≡ list_any test (held xs)
+walked test [] = refl
+walked test (None ∷ xs) = walked test xs
+walked test (Some r ∷ xs) = ap (λ b. test r || b) (walked test xs)
 
 pub read : (xs : List Slot) (i : ℕ) (s : Slot) → i < length xs → s ≡ slice_index_or xs i s → s ≡ slot xs i
 read xs i s l is = is ∙ get_or_default xs i s None l

@@ -1,6 +1,7 @@
 -- Slots, each with a key and its entry or empty. Assumes nothing.
 --     slot xs i          what stands in the slot i of xs: nothing past the end
 --     held xs            the keys and entries of xs, in the order of the slots
+--     passes test s      something stands in the slot s, and passes the test
 --     IsRun xs a b       a is no slot past b, and none from a up to b is empty
 --     IsReached n xs     each key stands at its home among n or after it, with no empty slot between
 --     is_passed k s      a search for k goes on past s: another key stands there
@@ -22,6 +23,10 @@ slot xs i = slice_index_or xs i None
 
 abbrev pub held : List Slot → List (Key × Entry)
 held xs = filter_map (λ s. s) xs
+
+abbrev pub passes : (Key × Entry → Bool) → Slot → Bool
+passes test None = false
+passes test (Some r) = test r
 
 pub record IsRun (xs : List Slot) (a b : ℕ) : Type 0 where
   pub ordered : a ≤ b

@@ -8,7 +8,7 @@ use register::key::Key;
 const MULTIPLIER: u64 = 18_397_679_294_719_823_053;
 
 // How many homes a table for so many keys has.
-pub fn homes(most: usize) -> usize
+pub(crate) fn homes(most: usize) -> usize
     requires { most ≤ 65536 }
     ensures { result ≡ homes most }
 {
@@ -17,7 +17,7 @@ pub fn homes(most: usize) -> usize
 
 // The home of a key among so many.
 #[tactic(auto, unfolding(crate::specs::Homes::home))]
-pub fn home(key: &Key, homes: usize) -> usize
+pub(crate) fn home(key: &Key, homes: usize) -> usize
     requires { 0 < homes }
     ensures value { result ≡ home homes key.now }
     ensures range { result < homes }

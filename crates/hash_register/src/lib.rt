@@ -4,3 +4,4 @@
 mod home;
 mod slots;
 pub mod table;
+mod walks;

@@ -6,10 +6,10 @@ use crate::home::home;
 use register::entry::Entry;
 use register::key::Key;
 
-pub type Slot = Option<(Key, Entry)>;
+pub(crate) type Slot = Option<(Key, Entry)>;
 
 // Where a search for the key from a slot on ends.
-pub fn search(slots: &[Slot], from: usize, key: &Key) -> usize
+pub(crate) fn search(slots: &[Slot], from: usize, key: &Key) -> usize
     requires { from ≤ length slots.now }
     ensures { Ends slots.now from key.now result }
 {
@@ -40,7 +40,7 @@ fn follower(slots: &[Slot], gap: usize, homes: usize) -> Option<usize>
 }
 
 // Takes the key in the slot `gap` away, and draws later ones back, so that each is still reached.
-pub fn vacate(slots: &mut [Slot], mut gap: usize, homes: usize)
+pub(crate) fn vacate(slots: &mut [Slot], mut gap: usize, homes: usize)
     requires homes { 0 < homes }
     requires gap { gap < length slots.old }
     requires filled { is_some (slot slots.old gap) ≡ true }

@@ -1,21 +1,18 @@
 // The register: slots for its keys, and room to spare beside them, so that a search is soon over however many it holds.
 ghost use Rattle.std.proofs.Props.{props};
-ghost use Rattle.std.specs.Prelude.{◌≡◌, ◌≢◌, ◌↔◌, ◌+◌, ◌*◌, ◌<◌, IfOk, IsTrue, IsSomeAnd, min, length};
-ghost use Rattle.register.specs.Contents.{empty};
-ghost use Rattle.register.specs.Entries.{Takes};
+ghost use Rattle.std.specs.Prelude.{◌≡◌, ◌<◌, IfOk, length};
+ghost use Rattle.register.specs.Contents.{begun};
 ghost use Rattle.hash_register.specs.Homes.{home, homes};
 ghost use Rattle.hash_register.specs.Slots.{Ends};
 ghost use Rattle.hash_register.specs.Tables.{IsTable};
 
 use crate::home::{home, homes};
 use crate::slots::{Slot, search, vacate};
+use crate::walks::{any_dispenses, any_takes};
 use register::entry::Entry;
 use register::key::Key;
-use register::register::{Full, Register};
+use register::register::{Full, MOST_ENTRIES, Register};
 use std::alloc::{AllocError, Global};
-
-// The greatest number of keys that a register may hold.
-pub const MOST: usize = 65_536;
 
 #[derive(Drop)]
 pub struct HashRegister {
@@ -28,11 +25,11 @@ pub struct HashRegister {
 impl HashRegister {
     ghost use Rattle.hash_register.specs.Registers.{contents};
 
-    // An empty register for so many keys, or for the greatest number. It asks for memory here, and never again.
-    pub fn new(alloc: Global, slots: usize) -> Result<HashRegister, AllocError>
-        ensures { IfOk result (λ r. contents r ≡ empty (min slots 65536)) }
+    // A register for so many entries, and for 65,536, if more are asked for. All memory is got here.
+    pub fn new(alloc: Global, entries: usize) -> Result<HashRegister, AllocError>
+        ensures { IfOk result (λ r. contents r ≡ begun entries) }
     {
-        let most = slots.min(MOST);
+        let most = entries.min(MOST_ENTRIES);
         let slots = vec![in alloc; None; homes(most) + most]?;
         Ok(HashRegister {
             slots,
@@ -83,31 +80,10 @@ impl Register for HashRegister {
     }
 
     fn is_dispensed_elsewhere(&self, key: &Key) -> bool {
-        self.slots.iter().any(|slot| is_dispensed(slot, key))
+        any_dispenses(&self.slots, key)
     }
 
     fn is_taken_elsewhere(&self, key: &Key, refill: u8, own: &Key) -> bool {
-        self.slots
-            .iter()
-            .any(|slot| is_taken(slot, key, refill, own))
-    }
-}
-
-// Whether a key other than `key` stands in the slot, with the origin `key`.
-fn is_dispensed(slot: &Slot, key: &Key) -> bool
-    ensures { IsTrue result ↔ IsSomeAnd slot.now (λ r. (r.0 ≢ key.now) × (r.1.origin ≡ Some key.now)) }
-{
-    matches!(slot, Some((other, entry)) if other != key && entry.origin == Some(*key))
-}
-
-// Whether a key other than `own` stands in the slot, with an entry that takes the refill of `key`.
-fn is_taken(slot: &Slot, key: &Key, refill: u8, own: &Key) -> bool
-    ensures { IsTrue result ↔ IsSomeAnd slot.now (λ r. (r.0 ≢ own.now) × Takes key.now refill r.0 r.1) }
-{
-    match slot {
-        Some((other, entry)) if other != own => {
-            entry.source(*other) == Some(*key) && entry.refills.contains(refill)
-        }
-        _ => false,
+        any_takes(&self.slots, key, refill, own)
     }
 }

@@ -8,4 +8,4 @@ invariant_of-result c = record {
 }
 
 pub returns : goal.returns
-returns c = contents_of_none c.min-most.result (c.homes.result + c.min-most.result) c.in_ok-slots.slots.items (c.in_ok-slots.ensures.items_if_clones_equal (search rules)) (min c.args.slots 65536) c.min-most.ensures
+returns c = contents_of_none c.min-most.result (c.homes.result + c.min-most.result) c.in_ok-slots.slots.items (c.in_ok-slots.ensures.items_if_clones_equal (search rules)) (min c.args.entries 65536) c.min-most.ensures
