@@ -1,0 +1,4 @@
+pub mod Spanning
+pub mod Looking
+pub mod Rising
+pub mod Filling

@@ -2,3 +2,8 @@ pub mod Lists
 pub mod Codes
 pub mod Shapes
 pub mod Bounds
+pub mod Spans
+pub mod Rows
+pub mod Entries
+pub mod Making
+pub mod Kept

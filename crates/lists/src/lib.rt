@@ -5,4 +5,7 @@ pub mod code;
 pub mod code_lists;
 pub mod listed_code;
 pub mod order;
+pub mod ordered_lists;
+pub mod row;
 pub mod shapes;
+pub mod span;
