@@ -2,18 +2,19 @@
 use Rattle.std.proofs.Common.{◌≡◌, ℕ, suc, zero, ◌+◌, ◌<◌, ◌≤◌, Bool, true, false, cond, ◌&&◌, ◌||◌, ◌==◌, nat_lt, List, [], ◌∷◌, take, get_or, Some, Ordering, Less, Equal, Greater, length, sym, refl, ap, ◌∙◌, subst, ⊎_elim, arith, add-one}
 use Rattle.std.proofs.lemmas.Bool.{cases_lt}
 use Rattle.std.proofs.lemmas.Bool.Decides.{nat_tests}
-use Rattle.std.proofs.lemmas.Cmp.{then_total, on_total, nat_cmp_total, nat_list_cmp_total, tied_itself}
+use Rattle.std.proofs.lemmas.Cmp.{on_total, tied_itself}
 use Rattle.std.proofs.lemmas.List.Folds.{list_any_more}
 use Rattle.std.proofs.lemmas.Slice.Eq.{bytes_eq-Decides}
 use Rattle.std.specs.BTreeMap.{insert_entry}
 use Rattle.std.specs.Cmp.{IsTotalOrder}
-use Rattle.std.specs.Cmp.Lexicographic.{slice_cmp}
 use Rattle.std.specs.Map.{lookup}
 use Rattle.std.specs.Option.{option_map}
-use Rattle.std.specs.Ordering.{is_eq, match_ordering, nat_cmp, ordering_then}
+use Rattle.std.specs.Ordering.{is_eq, match_ordering}
 use Rattle.std.specs.Str.{bytes_eq}
 use Rattle.calendar.specs.Calendar.{Date}
 use Rattle.ordered.specs.Tables.{Table, has_room, put_in}
+use Rattle.lists.proofs.Wording.{listed_total}
+use Rattle.lists.specs.Order.{listed_cmp}
 use Rattle.lists.proofs.Looking.{same_test}
 use Rattle.lists.proofs.Rising.{lawful_at, rises_at}
 use Rattle.lists.specs.Codes.{code_cmp}
@@ -51,7 +52,7 @@ length-insert_entry cmp k v (e ∷ es) = one (cmp k e.0) (length-insert_entry cm
 -- ---- rows that rise
 
 row_total : IsTotalOrder row_cmp
-row_total = then_total (on_total (λ (r : Row). r.list) nat_cmp_total) (on_total (λ (r : Row). r.code.now) nat_list_cmp_total)
+row_total = on_total (λ (r : Row). (r.list, r.code.now)) listed_total
 
 module _ (rs : List Row) (good : NoneIsBad rs) (d : Row) where
   rises : (j i : ℕ) → j < i → i < length rs → row_cmp (get_or rs j d) (get_or rs i d) ≡ Less
@@ -72,9 +73,6 @@ module _ (rs : List Row) (good : NoneIsBad rs) (d : Row) where
 less_is_no_tie : ¬ (Less ≡ Equal)
 less_is_no_tie h = cc
 
-tied : (m n : ℕ) (xs ys : List ℕ) → m ≡ n → xs ≡ ys → ordering_then (nat_cmp m n) (slice_cmp nat_cmp xs ys) ≡ Equal
-tied m n xs ys e f = rw (← e, ← f, tied_itself nat_cmp_total m) (tied_itself nat_list_cmp_total xs)
-
 module _ (list : ℕ) (code : List ℕ) where
   abbrev is_of : ℕ → List ℕ → Bool
   is_of n bs = list == n && bytes_eq code bs
@@ -89,9 +87,12 @@ module _ (list : ℕ) (code : List ℕ) where
   apart : (r s : Row) → row_cmp r s ≡ Less → is_of s.list s.code.now ≡ true → is_of r.list r.code.now ≡ false
   apart r s h k = not_both _ refl
     where
+      tied : r.list ≡ s.list → r.code.now ≡ s.code.now → row_cmp r s ≡ Equal
+      tied p q = (λ x. listed_cmp (r.list, r.code.now) (sym p x, sym q x)) ∙ tied_itself row_total r
+
       not_both : (b : Bool) → is_of r.list r.code.now ≡ b → b ≡ false
       not_both false e = refl
-      not_both true e = absurd (less_is_no_tie (sym h ∙ tied r.list s.list r.code.now s.code.now (sym (list_is _ _ e) ∙ list_is _ _ k) (sym (code_is _ _ e) ∙ code_is _ _ k)))
+      not_both true e = absurd (less_is_no_tie (sym h ∙ tied (sym (list_is _ _ e) ∙ list_is _ _ k) (sym (code_is _ _ e) ∙ code_is _ _ k)))
 
   -- the test for k is the test for the list and the code, if k has these
   one : (k j : ListedCode) → is_code list code k ≡ true → is_code list code j ≡ is_eq (code_cmp k j)

@@ -1,3 +1,4 @@
+pub mod Wording
 pub mod Spanning
 pub mod Looking
 pub mod Rising

@@ -1,4 +1,5 @@
 pub mod Lists
+pub mod Order
 pub mod Codes
 pub mod Shapes
 pub mod Bounds

@@ -1,7 +1,7 @@
 -- Rows of code lists. Assumes nothing.
 --     span_of r         the span that the row r writes, if it writes one
 --     is_lawful r       r is lawful by itself: its list and code may be, and it writes a span
---     row_cmp r s       how r and s compare: by list, then byte by byte of the code, a beginning before what goes on from it
+--     row_cmp r s       how r and s compare: as their lists and codes do
 --     is_bad rs i       the row at i is not lawful by itself, or not above the row before it
 --     NoneIsBad rs      no row is bad
 --     IsFirstBad rs i   the row at i is bad, and none before it
@@ -9,13 +9,13 @@
 --     says rs           what the rows say: one of them says so
 use Rattle.std.specs.Prelude.{◌≡◌, ℕ, ◌-◌, ◌<◌, Bool, false, true, not, ◌&&◌, ◌||◌, ◌==◌, List, length, Option, is_some, nat_lt, slice_get}
 use Rattle.std.specs.declared.cmp.Ordering.{Ordering}
-use Rattle.std.specs.Cmp.Lexicographic.{slice_cmp}
 use Rattle.std.specs.List.{list_any}
 use Rattle.std.specs.Option.{option_map_or}
-use Rattle.std.specs.Ordering.{nat_cmp, on, then_cmp, is_lt}
+use Rattle.std.specs.Ordering.{on, is_lt}
 use Rattle.std.specs.Str.{bytes_eq}
 use Rattle.calendar.specs.Calendar.{Date}
 use Rattle.lists.specs.Lists.{Meaning, is_listed}
+use Rattle.lists.specs.Order.{listed_cmp}
 use Rattle.lists.specs.Spans.{span_in, has_day}
 use Rattle.lists.specs.declared.row.Row.{Row}
 
@@ -26,7 +26,7 @@ abbrev pub is_lawful : Row → Bool
 is_lawful r = is_listed r.list r.code.now && is_some (span_of r)
 
 abbrev pub row_cmp : Row → Row → Ordering
-row_cmp = then_cmp (on (λ r. r.list) nat_cmp) (on (λ r. r.code.now) (slice_cmp nat_cmp))
+row_cmp = on (λ r. (r.list, r.code.now)) listed_cmp
 
 abbrev pub is_lawful_at : List Row → ℕ → Bool
 is_lawful_at rs i = option_map_or is_lawful (slice_get rs i) false

@@ -1,11 +1,12 @@
-// The order of codes: by list, then by their bytes as words stand in a dictionary, a beginning before what goes on from it. By
-// hand, as that of days, so that its clauses say what it is.
+// The order of codes: by list, and in a list as words stand in a dictionary. By hand, as that of days, so that its clauses say
+// what it is.
 ghost use Rattle.std.proofs.Common.{rules};
 ghost use Rattle.std.specs.Cmp.{partial_order_from_agreeing_total};
 ghost use Rattle.std.specs.Cmp.Rules.{comparing};
 ghost use Rattle.std.specs.Ordering.{as_partial_cmp, eq_by_cmp};
 ghost use Rattle.std.specs.Prelude.{◌≡◌};
 ghost use Rattle.lists.specs.Codes.{code_cmp};
+ghost use Rattle.lists.specs.Order.{listed_cmp, DictionaryOrder};
 
 use crate::listed_code::ListedCode;
 use std::cmp::Ordering;
@@ -47,8 +48,10 @@ impl Ord for ListedCode {
 
     ghost matches_eq = { Prim.search (comparing, rules) };
 
+    #[tactic(auto, using(crate::proofs::Wording::dictionary_order))]
     fn cmp(&self, other: &ListedCode) -> Ordering
-        ensures { result ≡ code_cmp self.now other.now }
+        ensures value { result ≡ code_cmp self.now other.now }
+        ensures law { DictionaryOrder listed_cmp }
     {
         self.list
             .cmp(&other.list)
