@@ -1,12 +1,14 @@
 -- Rows of code lists. Assumes nothing.
---     span_of r         the span that the row r writes, if it writes one
---     is_lawful r       r is lawful by itself: its list and code may be, and it writes a span
---     row_cmp r s       how r and s compare: as their lists and codes do
---     is_bad rs i       the row at i is not lawful by itself, or not above the row before it
---     NoneIsBad rs      no row is bad
---     IsFirstBad rs i   the row at i is bad, and none before it
---     row_says r        what the row r says: it has the list and the code, and the day is in its span
---     says rs           what the rows say: one of them says so
+--     span_of r          the span that the row r writes, if it writes one
+--     is_lawful r        r is lawful by itself: its list and code may be, and it writes a span
+--     row_cmp r s        how r and s compare: as their lists and codes do
+--     is_lawful_at rs i  so is the row at i
+--     rises rs j i       the row at i is above the row at j
+--     is_bad rs i        the row at i is not lawful by itself, or not above the row before it
+--     NoneIsBad rs       no row is bad
+--     IsFirstBad rs i    the row at i is bad, and none before it
+--     row_says r         what the row r says: it has the list and the code, and the day is in its span
+--     says rs            what the rows say: one of them says so
 use Rattle.std.specs.Prelude.{◌≡◌, ℕ, ◌-◌, ◌<◌, Bool, false, true, not, ◌&&◌, ◌||◌, ◌==◌, List, length, Option, is_some, nat_lt, slice_get}
 use Rattle.std.specs.declared.cmp.Ordering.{Ordering}
 use Rattle.std.specs.List.{list_any}

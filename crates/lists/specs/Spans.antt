@@ -1,7 +1,8 @@
 -- Spans of days, ends included. Assumes nothing.
---     span_in bs cs   the first and the last date that bs and cs write, if they write dates and the last is not before the first
---     is_in d s       the date d is in the span s
---     has_day d o     there is a span, and the date d is in it
+--     span_between a b   the dates a and b, if both are there and b is not before a
+--     span_in bs cs      the span from the date that bs write to the date that cs write, if they write one
+--     is_in d s          the date d is in the span s
+--     has_day d o        there is a span, and the date d is in it
 use Rattle.std.specs.Prelude.{ℕ, Bool, false, not, ◌&&◌, if◌then◌else◌, List, Option, Some, None}
 use Rattle.calendar.specs.Calendar.{Date}
 use Rattle.calendar.specs.Time.{is_before}

@@ -1,6 +1,8 @@
 // Rows of code lists, and which of them are bad.
 ghost use Rattle.std.specs.Prelude.{◌≡◌, ◌<◌, false, length, MatchOption};
 ghost use Rattle.std.specs.Ordering.{is_lt};
+ghost use Rattle.lists.specs.Entries.{IsEntry};
+ghost use Rattle.lists.specs.Rows.{row_cmp, is_lawful, is_bad, NoneIsBad, IsFirstBad};
 
 use crate::listed_code::ListedCode;
 use crate::span::Span;
@@ -10,15 +12,12 @@ use crate::span::Span;
 pub struct Row<'a> {
     pub list: u8,
     pub code: &'a [u8],
-    // seven digits, as the last
+    // the digits of a day, as those of the last
     pub first: &'a [u8],
     pub last: &'a [u8],
 }
 
 impl Row<'_> {
-    ghost use Rattle.lists.specs.Rows.{row_cmp, is_lawful};
-    ghost use Rattle.lists.specs.Entries.{IsEntry};
-
     // What the row writes, if it is lawful by itself.
     pub(crate) fn read(&self) -> Option<(ListedCode, Span)>
         ensures { MatchOption result (is_lawful self.now ≡ false) (IsEntry self.now) }
@@ -44,8 +43,6 @@ impl Row<'_> {
             .is_lt()
     }
 }
-
-ghost use Rattle.lists.specs.Rows.{is_bad, NoneIsBad, IsFirstBad};
 
 // Whether the row is not lawful by itself, or not above the row before it.
 fn is_bad(rows: &[Row<'_>], i: usize) -> bool

@@ -18,8 +18,8 @@ pub struct Span {
 impl Span {
     ghost use Rattle.lists.specs.Entries.{dates_of};
 
-    #[tactic(auto, using(crate::proofs::Spanning::lt_days))]
     // The span between the days that seven digits each write, if they do and the last is not before the first.
+    #[tactic(auto, using(crate::proofs::Spanning::lt_days))]
     pub fn read(first: &[u8], last: &[u8]) -> Option<Span>
         ensures { option_map dates_of result ≡ span_in first.now last.now }
     {
