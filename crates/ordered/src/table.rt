@@ -9,6 +9,7 @@ use std::alloc::{AllocError, Global};
 use std::marker::Model;
 use std::mem;
 
+#[derive(Drop)]
 pub struct OrderedTable<K: Ord, V> {
     rows: Vec<(K, V)>,
     most: usize,

@@ -1,0 +1,10 @@
+pub mod Lists
+pub mod Order
+pub mod Codes
+pub mod Shapes
+pub mod Bounds
+pub mod Spans
+pub mod Rows
+pub mod Entries
+pub mod Making
+pub mod Kept
