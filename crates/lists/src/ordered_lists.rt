@@ -18,7 +18,7 @@ pub struct OrderedLists {
 }
 
 // Why no lists were made.
-#[derive(Debug, Drop)]
+#[derive(Clone, Copy, PartialEq, Eq, Debug)]
 pub enum NotMade {
     // a row is bad
     Refused(Refusal),

@@ -2,7 +2,6 @@
 use crate::questions::{Written, made};
 use lists::ordered_lists::NotMade;
 use reader::faults::Refusal;
-use std::alloc::Global;
 
 const RIGHT: Written = (1, b"A", b"1130101", b"1131231");
 
@@ -96,19 +95,13 @@ const GOOD: [&[Written]; 8] = [
     &[(1, b"A", b"0010101", b"9991231")],
 ];
 
-fn refusal(alloc: Global, rows: &[Written]) -> Option<Refusal> {
-    match made(alloc, rows) {
-        Err(NotMade::Refused(refusal)) => Some(refusal),
-        _ => None,
-    }
-}
-
 #[test]
 fn bad_rows(rt: HostRuntime) {
     for (rows, place) in &BAD {
+        let told = made(rt.alloc(), rows).err();
         assert_eq!(rt;
-            refusal(rt.alloc(), rows),
-            Some(Refusal::Row { place: *place })
+            told,
+            Some(NotMade::Refused(Refusal::Row { place: *place }))
         );
     }
 }
