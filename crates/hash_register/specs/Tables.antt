@@ -1,5 +1,5 @@
 -- The table of a hash register. Assumes nothing.
---     IsTable m c xs       the slots xs hold c keys of at most m, each once and each reached from its home, and no other slot is taken
+--     IsTable m c xs       the slots xs hold c keys of at most m, each once and reached from its home; the rest are empty
 --     contents_of m c xs   what a register with that table holds
 use Rattle.std.specs.Prelude.{◌≡◌, ℕ, ◌+◌, ◌≤◌, List, length}
 use Rattle.std.specs.List.{IsDistinct}

@@ -4,7 +4,7 @@ ghost use Rattle.hash_register.specs.Homes.{homes, mixed, home};
 
 use register::key::Key;
 
-// Odd, and with no pattern in its bits, so that each byte reaches the high bits.
+// Odd, and with no pattern in its bits, so that each byte changes the high half.
 const MULTIPLIER: u64 = 18_397_679_294_719_823_053;
 
 // How many homes a table for so many keys has.
