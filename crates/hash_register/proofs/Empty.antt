@@ -8,7 +8,7 @@ use Rattle.register.specs.Contents.{empty}
 use Rattle.register.specs.Keys.{same_key}
 use Rattle.hash_register.specs.Homes.{homes}
 use Rattle.hash_register.specs.Slots.{Slot, slot, held}
-use Rattle.hash_register.specs.Tables.{IsTable, contents_of}
+use Rattle.hash_register.specs.Tables.{IsTable, table_contents}
 
 slot-empty : (n i : ℕ) → slot (replicate n None) i ≡ None
 slot-empty zero i = refl
@@ -37,5 +37,5 @@ module _ (m n : ℕ) (xs : List Slot) (is : xs ≡ replicate n None) where
     size = ap length is ∙ length-replicate n None ∙ long;
   }
 
-  pub contents_of_none : (most : ℕ) → m ≡ most → contents_of m 0 xs ≡ empty most
+  pub contents_of_none : (most : ℕ) → m ≡ most → table_contents m 0 xs ≡ empty most
   contents_of_none most same = λ i. record { at = λ k. lookup (same_key k) (nothing i); count = 0; most = same i }

@@ -16,7 +16,7 @@ use Rattle.hash_register.proofs.Held.{at, parted, parted_here, parted_empty, len
 use Rattle.hash_register.proofs.Reached.{filled_reached}
 use Rattle.hash_register.specs.Homes.{home, homes}
 use Rattle.hash_register.specs.Slots.{Slot, slot, held, IsRun, is_passed, Ends, Vacates}
-use Rattle.hash_register.specs.Tables.{IsTable, contents_of}
+use Rattle.hash_register.specs.Tables.{IsTable, table_contents}
 
 passed_filled : (k : Key) (s : Slot) → is_passed k s ≡ true → is_some s ≡ true
 passed_filled k None h = h
@@ -35,14 +35,14 @@ IsCount m c s n = ((is_some s ≡ true) × (n ≡ c)) ⊎ ((is_some s ≡ false)
 
 pub record IsPut (m c : ℕ) (xs : List Slot) (k : Key) (e : Entry) (n : ℕ) (ys : List Slot) : Type 0 where
   pub table : IsTable m n ys
-  pub answer : Ok tt ≡ put_answer (contents_of m c xs) k
-  pub after : contents_of m n ys ≡ put_in (contents_of m c xs) k e
+  pub answer : Ok tt ≡ put_answer (table_contents m c xs) k
+  pub after : table_contents m n ys ≡ put_in (table_contents m c xs) k e
 
 pub record IsRemoved (m c : ℕ) (xs : List Slot) (k : Key) (ys : List Slot) : Type 0 where
   pub held_one : 1 ≤ c
   pub table : IsTable m (c - 1) ys
   pub answer : true ≡ is_some (at (held xs) k)
-  pub after : contents_of m (c - 1) ys ≡ without (contents_of m c xs) k
+  pub after : table_contents m (c - 1) ys ≡ without (table_contents m c xs) k
 
 module _ (m c : ℕ) (xs : List Slot) (t : IsTable m c xs) (k : Key) (i : ℕ) (f : Ends xs (home (homes m) k) k i) where
   pub found_within : home (homes m) k < homes m → i < length xs
@@ -138,11 +138,11 @@ module _ (m c : ℕ) (xs : List Slot) (t : IsTable m c xs) (k : Key) (i : ℕ) (
             size = length-set xs i (Some (k, e)) ∙ t.size;
           };
           answer = ap (λ b. cond b (Ok tt) (Err (record {}))) (sym there);
-          after = (λ j. record { at = λ q. put_at e d q j; count = count j; most = m }) ∙ ap (λ b. cond b (with_entry (contents_of m c xs) k e) (contents_of m c xs)) (sym there);
+          after = (λ j. record { at = λ q. put_at e d q j; count = count j; most = m }) ∙ ap (λ b. cond b (with_entry (table_contents m c xs) k e) (table_contents m c xs)) (sym there);
         }
       where
         go : length (held xs) ≡ length (held (slice_set xs i None)) + cond (is_some (slot xs i)) 1 0 → IsCount m c (slot xs i) n
-            → (has_room (contents_of m c xs) k ≡ true) × (n ≡ cond (is_some (at (held xs) k)) c (c + 1)) × (n ≡ length (held (slice_set xs i None)) + 1) × (n ≤ m)
+            → (has_room (table_contents m c xs) k ≡ true) × (n ≡ cond (is_some (at (held xs) k)) c (c + 1)) × (n ≡ length (held (slice_set xs i None)) + 1) × (n ≤ m)
         go long (inl (some, is)) =
             let a = stands ∙ some in
             let longer : length (held xs) ≡ length (held (slice_set xs i None)) + 1 = long ∙ ap (λ b. length (held (slice_set xs i None)) + cond b 1 0) some in
@@ -179,15 +179,15 @@ module _ (m c : ℕ) (xs : List Slot) (t : IsTable m c xs) (k : Key) (i : ℕ) (
     not_there : is_some (at (held xs) k) ≡ false
     not_there = stands ∙ none
 
-    pub without_none : contents_of m c xs ≡ without (contents_of m c xs) k
+    pub without_none : table_contents m c xs ≡ without (table_contents m c xs) k
     without_none = λ j. record { at = λ q. lacks (is_nothing _ not_there) q j; count = sym (ap (λ b. cond b (c - 1) c) not_there) j; most = m }
 
     module _ (full : c ≡ m) where
-      no_room : has_room (contents_of m c xs) k ≡ false
+      no_room : has_room (table_contents m c xs) k ≡ false
       no_room = ap (λ b. b || nat_lt c m) not_there ∙ le-ltb c m (omega arith)
 
-      pub full_answer : Err (record {}) ≡ put_answer (contents_of m c xs) k
+      pub full_answer : Err (record {}) ≡ put_answer (table_contents m c xs) k
       full_answer = ap (λ b. cond b (Ok tt) (Err (record {}))) (sym no_room)
 
-      pub full_after : (e : Entry) → contents_of m c xs ≡ put_in (contents_of m c xs) k e
-      full_after e = ap (λ b. cond b (with_entry (contents_of m c xs) k e) (contents_of m c xs)) (sym no_room)
+      pub full_after : (e : Entry) → table_contents m c xs ≡ put_in (table_contents m c xs) k e
+      full_after e = ap (λ b. cond b (with_entry (table_contents m c xs) k e) (table_contents m c xs)) (sym no_room)

@@ -1,4 +1,4 @@
 pub mod Homes
 pub mod Slots
 pub mod Tables
-pub mod Registers
+pub mod Meaning

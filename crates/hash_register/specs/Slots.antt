@@ -1,8 +1,9 @@
 -- Slots, each with a key and its entry or empty. Assumes nothing.
+--     Slot               a key with its entry, or nothing
 --     slot xs i          what stands in the slot i of xs: nothing past the end
 --     held xs            the keys and entries of xs, in the order of the slots
 --     passes test s      something stands in the slot s, and passes the test
---     IsRun xs a b       a is no slot past b, and none from a up to b is empty
+--     IsRun xs a b       a ≤ b, and no slot from a on and before b is empty
 --     IsReached n xs     each key stands at its home among n or after it, with no empty slot between
 --     is_passed k s      a search for k goes on past s: another key stands there
 --     Ends xs a k i      a search for k from a on ends at i, the first slot that is empty or has k

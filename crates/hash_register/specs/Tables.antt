@@ -1,6 +1,6 @@
 -- The table of a hash register. Assumes nothing.
---     IsTable m c xs       the slots xs hold c keys of at most m, each once and reached from its home; the rest are empty
---     contents_of m c xs   what a register with that table holds
+--     IsTable m c xs          the slots xs, homes m + m of them with m ≤ 65536, hold c keys of at most m, each once and reached from its home
+--     table_contents m c xs   what a register with that table holds
 use Rattle.std.specs.Prelude.{◌≡◌, ℕ, ◌+◌, ◌≤◌, List, length}
 use Rattle.std.specs.List.{IsDistinct}
 use Rattle.std.specs.Map.{keys_of, lookup}
@@ -17,5 +17,5 @@ pub record IsTable (m c : ℕ) (xs : List Slot) : Type 0 where
   pub small : m ≤ 65536
   pub size : length xs ≡ homes m + m
 
-abbrev pub contents_of : ℕ → ℕ → List Slot → Contents
-contents_of m c xs = record { at = λ k. lookup (same_key k) (held xs); count = c; most = m }
+abbrev pub table_contents : ℕ → ℕ → List Slot → Contents
+table_contents m c xs = record { at = λ k. lookup (same_key k) (held xs); count = c; most = m }

@@ -3,5 +3,5 @@
 
 mod home;
 mod slots;
-pub mod table;
+pub mod store;
 mod walks;

@@ -8,7 +8,7 @@ use Rattle.std.specs.List.Sorted.{IsStrictlySortedBy}
 use Rattle.std.specs.Map.{keys_of, lookup, remove_entry}
 use Rattle.std.specs.Ordering.{is_eq, match_ordering}
 use Rattle.ordered.specs.Searches.{EndsAt}
-use Rattle.ordered.specs.Tables.{Table, at, has_room, Puts, Takes}
+use Rattle.ordered.specs.Tables.{Table, at, has_room, Puts, Removes}
 
 module _ {K V : Type 0} (R : K → K → Ordering) (k : K) where
   pub looked : (e : K × V) (es : List (K × V)) (r : Ordering) → R k e.0 ≡ r → lookup (is_at (R k)) (e ∷ es) ≡ cond (is_eq r) (Some e.1) (lookup (is_at (R k)) es)
@@ -64,13 +64,13 @@ module _ {K V : Type 0} {R : K → K → Ordering} (o : IsTotalOrder R) (k : K) 
   missing (e ∷ es) (suc i) s h = looked R k e es Greater h.0 ∙ missing es i s.1 h.1
 
 module _ {K V : Type 0} (R : K → K → Ordering) (k : K) (t : Table K V) (i : ℕ) where
-  pub took : (e : K × V) → e ≡ get_or t.entries i e → EndsAt R k t.entries i Equal → Takes R t k (Some e.1) (record { entries = remove t.entries i; most = t.most })
+  pub took : (e : K × V) → e ≡ get_or t.entries i e → EndsAt R k t.entries i Equal → Removes R t k (Some e.1) (record { entries = remove t.entries i; most = t.most })
   took e is h = record {
     answer = ap (λ (x : K × V). Some x.1) is ∙ sym (found R k t.entries i e h);
     after = λ j. record { entries = taken R k t.entries i h j; most = t.most };
   }
 
-pub took_none : {K V : Type 0} {R : K → K → Ordering} (o : IsTotalOrder R) (k : K) (t : Table K V) (i : ℕ) → IsStrictlySortedBy R (keys_of t.entries) → EndsAt R k t.entries i Less → Takes R t k None t
+pub took_none : {K V : Type 0} {R : K → K → Ordering} (o : IsTotalOrder R) (k : K) (t : Table K V) (i : ℕ) → IsStrictlySortedBy R (keys_of t.entries) → EndsAt R k t.entries i Less → Removes R t k None t
 took_none {R = R} o k t i s h =
     let gone = missing o k t.entries i s h in
     record { answer = sym gone; after = λ j. record { entries = sym (none_gone R k t.entries gone) j; most = t.most } }

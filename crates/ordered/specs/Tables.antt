@@ -8,9 +8,9 @@
 --     put_in cmp t k v       t after it: with v at k, or as it was, if there is no room
 --     Puts cmp t k v r u     r is that answer, and u what is left
 --     without cmp t k        t without the entry at k
---     Takes cmp t k r u      r is the value that stood at k, and u what is left without it
---     one_if b               1 of what holds, or 0
---     Changes cmp t k w u    as a map, u is t with w at k: every other key keeps its value, and so many entries more or fewer there are
+--     Removes cmp t k r u    r is the value that stood at k, and u what is left without it
+--     one_if b               1 if b holds, else 0
+--     Changes cmp t k w u    u is t with w at k: other keys keep their values, the count follows, the greatest count stays
 use Rattle.std.specs.Prelude.{◌≡◌, ℕ, ◌+◌, ◌≤◌, Bool, if◌then◌else◌, ◌||◌, List, [], length, Option, Result, Ok, Err, is_some, nat_lt}
 use Rattle.std.specs.declared.cmp.Ordering.{Ordering}
 use Rattle.std.specs.BTreeMap.{insert_entry, is_at}
@@ -50,7 +50,7 @@ module _ {K V : Type 0} (cmp : K → K → Ordering) (t : Table K V) (k : K) whe
   abbrev pub without : Table K V
   without = record { entries = remove_entry (is_at (cmp k)) t.entries; most = t.most }
 
-  pub record Takes (r : Option V) (u : Table K V) : Type 0 where
+  pub record Removes (r : Option V) (u : Table K V) : Type 0 where
     pub answer : r ≡ at
     pub after : u ≡ without
 

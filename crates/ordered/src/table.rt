@@ -2,7 +2,7 @@
 // fail for want of it.
 ghost use Rattle.std.specs.Prelude.{◌≡◌, IfOk, OnOk, Some, None};
 ghost use Rattle.std.specs.Option.{option_copied};
-ghost use Rattle.ordered.specs.Tables.{empty, at, put_answer, put_in, Puts, without, Takes, Changes, IsKept};
+ghost use Rattle.ordered.specs.Tables.{empty, at, put_answer, put_in, Puts, without, Removes, Changes, IsKept};
 
 use crate::search::find;
 use std::alloc::{AllocError, Global};
@@ -25,7 +25,8 @@ impl<K: Ord, V> Model for OrderedTable<K, V> {
 
     ghost view = { λ t. record { entries = t.rows.items; most = t.most } };
 
-    ghost invariant = { λ t. IsStrictlySortedBy K.cmp (keys_of t.rows.items) × (vec_len t.rows ≤ t.most) × (t.most ≤ vec_capacity t.rows) };
+    ghost invariant = { λ t. IsStrictlySortedBy K.cmp (keys_of t.rows.items)
+        × (vec_len t.rows ≤ t.most) × (t.most ≤ vec_capacity t.rows) };
 }
 
 impl<K: Ord, V> OrderedTable<K, V> {
@@ -75,13 +76,13 @@ impl<K: Ord, V> OrderedTable<K, V> {
         self.place(key, value)
     }
 
-    // What `put` does; that says what it means.
+    // The steps of `put`, which adds what they mean for a map.
     fn place(&mut self, key: K, value: V) -> Result<Option<V>, (K, V)>
     where
         K: Drop,
         V: Drop,
         ensures steps { Puts K.cmp self.old key value result self.new }
-        ensures kept { IsKept K.cmp self.old }
+        ensures was_kept { IsKept K.cmp self.old }
     {
         match find(&self.rows, &key) {
             Ok(i) => Ok(Some(mem::replace(&mut self.rows[i].1, value))),
@@ -106,12 +107,12 @@ impl<K: Ord, V> OrderedTable<K, V> {
         self.take(key)
     }
 
-    // What `remove` does; that says what it means.
+    // The steps of `remove`, which adds what they mean for a map.
     fn take(&mut self, key: &K) -> Option<V>
     where
         K: Drop,
-        ensures steps { Takes K.cmp self.old key.now result self.new }
-        ensures kept { IsKept K.cmp self.old }
+        ensures steps { Removes K.cmp self.old key.now result self.new }
+        ensures was_kept { IsKept K.cmp self.old }
     {
         match find(&self.rows, key) {
             Ok(i) => {

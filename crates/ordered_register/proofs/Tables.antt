@@ -5,7 +5,7 @@ use Rattle.std.specs.Map.{lookup}
 use Rattle.std.specs.Prelude.{OnOk}
 use Rattle.ordered.specs.Tables.{Table, at, Changes, one_if}
 use Rattle.ordered.specs.Tables as table
-use Rattle.register.specs.Contents.{held, has_room, put_answer, put_in, with_entry, without}
+use Rattle.register.specs.Contents.{holding, has_room, put_answer, put_in, with_entry, without}
 use Rattle.register.specs.Keys.{same_key, key_cmp}
 use Rattle.register.specs.declared.entry.Entry.{Entry}
 use Rattle.register.specs.declared.key.Key.{Key}
@@ -33,30 +33,30 @@ module _ (t : Table Key Entry) (k : Key) where
     values : (w : Option Entry) → Changes key_cmp t k w u → (q : Key) → lookup (same_key q) u.entries ≡ cond (same_key k q) w (lookup (same_key q) t.entries)
     values w c q = subst (λ f. lookup (f q) u.entries ≡ cond (f k q) w (lookup (f q) t.entries)) by_cmp (c.values q)
 
-    pub held_put : (e : Entry) → Changes key_cmp t k (Some e) u → held u.entries u.most ≡ with_entry (held t.entries t.most) k e
+    pub held_put : (e : Entry) → Changes key_cmp t k (Some e) u → holding u.entries u.most ≡ with_entry (holding t.entries t.most) k e
     held_put e c =
         let n = counted _ _ _ (subst (λ o. length u.entries + one_if (is_some o) ≡ length t.entries + 1) found c.count) in
         λ i. record { at = λ q. values (Some e) c q i; count = n i; most = c.most i }
 
-    pub held_without : Changes key_cmp t k None u → held u.entries u.most ≡ without (held t.entries t.most) k
+    pub held_without : Changes key_cmp t k None u → holding u.entries u.most ≡ without (holding t.entries t.most) k
     held_without c =
         let n = gone _ _ _ (subst (λ o. length u.entries + one_if (is_some o) ≡ length t.entries + 0) found c.count) in
         λ i. record { at = λ q. values None c q i; count = n i; most = c.most i }
 
-    room : table.has_room key_cmp t k ≡ has_room (held t.entries t.most) k
+    room : table.has_room key_cmp t k ≡ has_room (holding t.entries t.most) k
     room = λ i. is_some (found i) || ltb (length t.entries) t.most
 
     -- what a put to the table is answered says whether there was room
     pub put : (e : Entry) (r : Result (Option Entry) (Key × Entry)) → r ≡ table.put_answer key_cmp t k e → u ≡ table.put_in key_cmp t k e → OnOk r (Changes key_cmp t k (Some e) u)
-        → (answer_of r ≡ put_answer (held t.entries t.most) k) × (held u.entries u.most ≡ put_in (held t.entries t.most) k e)
+        → (answer_of r ≡ put_answer (holding t.entries t.most) k) × (holding u.entries u.most ≡ put_in (holding t.entries t.most) k e)
     put e r told after law = by_room (table.has_room key_cmp t k) refl
       where
-        by_room : (b : Bool) → table.has_room key_cmp t k ≡ b → (answer_of r ≡ put_answer (held t.entries t.most) k) × (held u.entries u.most ≡ put_in (held t.entries t.most) k e)
+        by_room : (b : Bool) → table.has_room key_cmp t k ≡ b → (answer_of r ≡ put_answer (holding t.entries t.most) k) × (holding u.entries u.most ≡ put_in (holding t.entries t.most) k e)
         by_room true h =
-            let here : has_room (held t.entries t.most) k ≡ true = sym room ∙ h in
+            let here : has_room (holding t.entries t.most) k ≡ true = sym room ∙ h in
             let ok : r ≡ Ok (at key_cmp t k) = told ∙ cond-true _ _ _ h in
             (ap answer_of ok ∙ sym (cond-true _ _ _ here), held_put e (subst (λ x. OnOk x (Changes key_cmp t k (Some e) u)) ok law) ∙ sym (cond-true _ _ _ here))
         by_room false h =
-            let none : has_room (held t.entries t.most) k ≡ false = sym room ∙ h in
+            let none : has_room (holding t.entries t.most) k ≡ false = sym room ∙ h in
             let stays : u ≡ t = after ∙ cond-false _ _ _ h in
-            (ap answer_of (told ∙ cond-false _ _ _ h) ∙ sym (cond-false _ _ _ none), ap (λ (x : Table Key Entry). held x.entries x.most) stays ∙ sym (cond-false _ _ _ none))
+            (ap answer_of (told ∙ cond-false _ _ _ h) ∙ sym (cond-false _ _ _ none), ap (λ (x : Table Key Entry). holding x.entries x.most) stays ∙ sym (cond-false _ _ _ none))

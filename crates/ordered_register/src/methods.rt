@@ -31,8 +31,8 @@ impl Register for OrderedRegister {
         any_dispenses(self.table.rows(), key)
     }
 
-    fn is_taken_elsewhere(&self, key: &Key, refill: u8, own: &Key) -> bool {
-        any_takes(self.table.rows(), key, refill, own)
+    fn is_taken_elsewhere(&self, key: &Key, refill: u8, than: &Key) -> bool {
+        any_takes(self.table.rows(), key, refill, than)
     }
 
     ghost finite = { λ r. finite r.table.entries r.table.most (distinct _ r.rising) r.within };

@@ -11,16 +11,18 @@ use register::key::Key;
 use register::register::MOST_ENTRIES;
 use std::alloc::{AllocError, Global};
 
+#[derive(Drop)]
 pub struct OrderedRegister {
     pub(crate) table: OrderedTable<Key, Entry>,
-    ghost rising: { IsStrictlySortedBy key_cmp (keys_of table.entries) } by { IsStrictlySortedBy-prop key_cmp (keys_of table.entries) },
+    ghost rising: { IsStrictlySortedBy key_cmp (keys_of table.entries) }
+        by { IsStrictlySortedBy-prop key_cmp (keys_of table.entries) },
     ghost within: { length table.entries ≤ table.most },
 }
 
 impl OrderedRegister {
     ghost use Rattle.ordered_register.specs.Meaning.{contents_of};
 
-    // A register for so many entries, and for 65,536, if more are asked for. All memory is got here.
+    // A register for so many entries, and for 65,536, if more are asked for. Only here can memory be wanting.
     pub fn new(alloc: Global, entries: usize) -> Result<OrderedRegister, AllocError>
         ensures { IfOk result (λ r. contents_of r ≡ begun entries) }
     {

@@ -7,7 +7,7 @@ use Rattle.std.proofs.lemmas.Option.{none-some, same_Some}
 use Rattle.std.specs.List.{IsDistinct, list_any}
 use Rattle.std.specs.Map.{keys_of, lookup}
 use Rattle.std.specs.Prelude.{◌↔◌, IsTrue, IsSomeAnd}
-use Rattle.register.specs.Contents.{Contents, IsFinite, held, Elsewhere, DispensedElsewhere, TakenElsewhere}
+use Rattle.register.specs.Contents.{Contents, IsFinite, holding, Elsewhere, DispensedElsewhere, TakenElsewhere}
 use Rattle.register.specs.Entries.{is_from, source, Takes, dispenses, takes_for}
 use Rattle.register.specs.Keys.{same_key}
 use Rattle.register.specs.declared.entry.Entry.{Entry}
@@ -21,7 +21,7 @@ these : (es : Rows) (k : Key) → is_some (lookup (same_key k) es) ≡ list_any 
 these [] k = refl
 these (e ∷ es) k = elim (same_key k e.0) as (λ b. is_some (cond b (Some e.1) (lookup (same_key k) es)) ≡ (b || list_any (same_key k) (keys_of es))) [ true ↦ refl | false ↦ these es k ]
 
-pub finite : (es : Rows) (n : ℕ) → IsDistinct same_key (keys_of es) → length es ≤ n → IsFinite (held es n)
+pub finite : (es : Rows) (n : ℕ) → IsDistinct same_key (keys_of es) → length es ≤ n → IsFinite (holding es n)
 finite es n d h = record { keys = keys_of es; distinct = d; these = these es; counted = sym (length-keys_of es); within = h }
 
 -- a row that passes a test
@@ -47,7 +47,7 @@ module _ (es : Rows) (n : ℕ) (d : IsDistinct same_key (keys_of es)) (j : Key) 
       let (i, k, at, is) = place_from_lookup (same_key own) es e same in
       any_passes_from_place test es i (k, e) at ((tells k e).1 (subst (λ q. (q ≢ j) × P q e) (is_same own k is) (apart, h)))
 
-  pub elsewhere : Tells → IsTrue (list_any test es) ↔ Elsewhere (held es n) j P
+  pub elsewhere : Tells → IsTrue (list_any test es) ↔ Elsewhere (holding es n) j P
   elsewhere tells = (
     λ h.
         let r = passing test es h in
@@ -72,13 +72,13 @@ both true b = (λ h. (refl, h), λ h. h.1)
 both false b = (λ h. absurd (false≢true h), λ h. absurd (false≢true h.0))
 
 module _ (es : Rows) (n : ℕ) (d : IsDistinct same_key (keys_of es)) where
-  pub dispensed : (k : Key) → IsTrue (list_any (λ row. dispenses k row.0 row.1) es) ↔ DispensedElsewhere (held es n) k
+  pub dispensed : (k : Key) → IsTrue (list_any (λ row. dispenses k row.0 row.1) es) ↔ DispensedElsewhere (holding es n) k
   dispensed k = elsewhere es n d k (λ _ e. e.origin ≡ Some k) _ (λ own e. (
     λ h. let p = (both _ _).0 h in ((is_other own k).0 p.0, (is_from_key e.origin k).0 p.1),
     λ h. (both _ _).1 ((is_other own k).1 h.0, (is_from_key e.origin k).1 h.1),
   ))
 
-  pub taken : (k : Key) (m : ℕ) (j : Key) → IsTrue (list_any (λ row. takes_for k m j row.0 row.1) es) ↔ TakenElsewhere (held es n) k m j
+  pub taken : (k : Key) (m : ℕ) (j : Key) → IsTrue (list_any (λ row. takes_for k m j row.0 row.1) es) ↔ TakenElsewhere (holding es n) k m j
   taken k m j = elsewhere es n d j (Takes k m) _ (λ own e. (
     λ h. let p = (both _ _).0 h in let q = (both _ _).0 p.1 in ((is_other own j).0 p.0, ((is_from_key (source own e) k).0 q.0, q.1)),
     λ h. (both _ _).1 ((is_other own j).1 h.0, (both _ _).1 ((is_from_key (source own e) k).1 h.1.0, h.1.1)),

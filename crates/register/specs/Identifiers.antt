@@ -1,6 +1,6 @@
 -- The identifiers of records. Assumes nothing.
 --     is_identifier bs    whether the bytes are twenty of A to Z and 0 to 9
---     is_placeholder bs   whether an identifier names no record: twenty 9s, twenty Fs, or one that ends in sixteen zeros
+--     is_placeholder bs   whether the identifier bs, twenty bytes, is a placeholder: all 9s, all Fs, or sixteen zeros at the end
 use Rattle.std.specs.Prelude.{ℕ, Bool, ◌&&◌, ◌||◌, ◌==◌, List, length, drop}
 use Rattle.std.specs.List.{list_all}
 use Rattle.grammar.specs.Bytes.{is_sign}

@@ -29,7 +29,7 @@ impl Key {
         })
     }
 
-    // Whether the identifier is a placeholder, under which nothing can be looked up.
+    // Whether the identifier is a placeholder, which stands for no particular record. A register treats it like any other.
     pub fn is_placeholder(&self) -> bool
         ensures { result ≡ is_placeholder self.now.identifier }
     {

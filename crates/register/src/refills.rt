@@ -1,9 +1,9 @@
-// Which refills of a prescription a record takes: a set of the digits 1 to 9.
+// Which refills of a prescription a record takes: a set of the numbers 1 to 9.
 ghost use Rattle.std.specs.Prelude.{◌≡◌, ℕ, ◌&&◌, ◌||◌, ◌==◌};
 
 #[derive(Clone, Copy, PartialEq, Eq, Debug)]
 pub struct Refills {
-    // whether the digit one above the index is in it
+    // whether the refill one above the index is in it
     taken: [bool; 9],
 }
 
@@ -17,21 +17,21 @@ impl Refills {
         Refills { taken: [false; 9] }
     }
 
-    // Puts a digit into it. Any other number than 1 to 9 changes nothing.
-    pub fn insert(&mut self, digit: u8)
-        ensures value { self.new ≡ with_refill self.old digit }
-        ensures members { (n : ℕ) → has_refill self.new n ≡ (has_refill self.old n || (n == digit && is_refill n)) }
+    // Puts a refill into it, by its number and not its ASCII digit. Any other number than 1 to 9 changes nothing.
+    pub fn insert(&mut self, refill: u8)
+        ensures value { self.new ≡ with_refill self.old refill }
+        ensures members { (n : ℕ) → has_refill self.new n ≡ (has_refill self.old n || (n == refill && is_refill n)) }
     {
-        if let 1..=9 = digit {
-            self.taken[usize::from(digit) - 1] = true;
+        if let 1..=9 = refill {
+            self.taken[usize::from(refill) - 1] = true;
         }
     }
 
-    pub fn contains(&self, digit: u8) -> bool
-        ensures { result ≡ has_refill self.now digit }
+    pub fn contains(&self, refill: u8) -> bool
+        ensures { result ≡ has_refill self.now refill }
     {
-        match digit {
-            1..=9 => self.taken[usize::from(digit) - 1],
+        match refill {
+            1..=9 => self.taken[usize::from(refill) - 1],
             _ => false,
         }
     }

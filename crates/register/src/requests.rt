@@ -1,6 +1,5 @@
 // Requests to a register of any kind, each with its reply.
-ghost use Rattle.std.specs.Prelude.{◌≡◌};
-ghost use Rattle.register.specs.Requests.{Answers, Served};
+ghost use Rattle.register.specs.Requests.{Answers, Served, Alike};
 
 use crate::entry::Entry;
 use crate::key::Key;
@@ -12,14 +11,14 @@ pub enum Request {
     Put { key: Key, entry: Entry },
     Remove { key: Key },
     IsDispensedElsewhere { key: Key },
-    IsTakenElsewhere { key: Key, refill: u8, own: Key },
+    IsTakenElsewhere { key: Key, refill: u8, than: Key },
 }
 
 #[derive(Clone, Copy, PartialEq, Eq, Debug)]
 pub enum Reply {
     Entry(Option<Entry>),
     Put(Result<(), Full>),
-    Bool(bool),
+    Told(bool),
 }
 
 // The right reply to a request. `serve` adds that no other is right.
@@ -29,10 +28,10 @@ fn answer<R: Register>(register: &mut R, request: Request) -> Reply
     match request {
         Request::LookUp { key } => Reply::Entry(register.look_up(&key)),
         Request::Put { key, entry } => Reply::Put(register.put(key, entry)),
-        Request::Remove { key } => Reply::Bool(register.remove(&key)),
-        Request::IsDispensedElsewhere { key } => Reply::Bool(register.is_dispensed_elsewhere(&key)),
-        Request::IsTakenElsewhere { key, refill, own } => {
-            Reply::Bool(register.is_taken_elsewhere(&key, refill, &own))
+        Request::Remove { key } => Reply::Told(register.remove(&key)),
+        Request::IsDispensedElsewhere { key } => Reply::Told(register.is_dispensed_elsewhere(&key)),
+        Request::IsTakenElsewhere { key, refill, than } => {
+            Reply::Told(register.is_taken_elsewhere(&key, refill, &than))
         }
     }
 }
@@ -45,7 +44,7 @@ pub fn serve<R: Register>(register: &mut R, request: Request) -> Reply
     answer(register, request)
 }
 
-// Asks two registers, of any kinds, the same: such as hold the same reply the same, and hold the same afterwards.
+// Puts one request to two registers of any kinds: if they held the same, they reply the same and hold the same afterwards.
 #[tactic(auto, using(crate::proofs::OneAnswer::alike))]
 pub fn serve_both<A: Register, B: Register>(
     one: &mut A,
@@ -54,7 +53,7 @@ pub fn serve_both<A: Register, B: Register>(
 ) -> (Reply, Reply)
     ensures one { Served (A.contents one.old) request result.0 (A.contents one.new) }
     ensures other { Served (B.contents other.old) request result.1 (B.contents other.new) }
-    ensures alike { A.contents one.old ≡ B.contents other.old → (result.0 ≡ result.1) × (A.contents one.new ≡ B.contents other.new) }
+    ensures alike { Alike (A.contents one.old) (B.contents other.old) result (A.contents one.new) (B.contents other.new) }
 {
     (serve(one, request), serve(other, request))
 }

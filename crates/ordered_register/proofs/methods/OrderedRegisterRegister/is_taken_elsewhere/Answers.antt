@@ -5,4 +5,4 @@ use Rattle.ordered_register.proofs.methods.OrderedRegisterRegister.is_taken_else
 pub returns : goal.returns
 returns c =
     let r = c.args.self.now in
-    rw (c.any_takes.ensures, c.rows.ensures.entries) (taken r.table.entries r.table.most (distinct _ r.rising) c.args.key.now c.args.refill c.args.own.now)
+    rw (c.any_takes.ensures, c.rows.ensures.entries) (taken r.table.entries r.table.most (distinct _ r.rising) c.args.key.now c.args.refill c.args.than.now)

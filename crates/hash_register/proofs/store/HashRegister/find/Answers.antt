@@ -2,7 +2,7 @@ use Rattle.std.proofs.Common.{◌<◌, subst, rules}
 use Rattle.hash_register.proofs.Tables.{found_within}
 use Rattle.hash_register.specs.Homes.{home, homes}
 use Rattle.hash_register.specs.Slots.{Ends}
-use Rattle.hash_register.proofs.table.HashRegister.find.Goals as goal
+use Rattle.hash_register.proofs.store.HashRegister.find.Goals as goal
 
 pub returns-clause-within : goal.returns-clause-within
 returns-clause-within c =

@@ -23,11 +23,11 @@ pub struct HashRegister {
 }
 
 impl HashRegister {
-    ghost use Rattle.hash_register.specs.Registers.{contents};
+    ghost use Rattle.hash_register.specs.Meaning.{contents_of};
 
-    // A register for so many entries, and for 65,536, if more are asked for. All memory is got here.
+    // A register for so many entries, and for 65,536, if more are asked for. Only here can memory be wanting.
     pub fn new(alloc: Global, entries: usize) -> Result<HashRegister, AllocError>
-        ensures { IfOk result (λ r. contents r ≡ begun entries) }
+        ensures { IfOk result (λ r. contents_of r ≡ begun entries) }
     {
         let most = entries.min(MOST_ENTRIES);
         let slots = vec![in alloc; None; homes(most) + most]?;
@@ -48,9 +48,9 @@ impl HashRegister {
 }
 
 impl Register for HashRegister {
-    ghost use Rattle.hash_register.specs.Registers.{contents, finite};
+    ghost use Rattle.hash_register.specs.Meaning.{contents_of, finite};
 
-    ghost contents = { contents };
+    ghost contents = { contents_of };
 
     ghost finite = { finite };
 
@@ -83,7 +83,7 @@ impl Register for HashRegister {
         any_dispenses(&self.slots, key)
     }
 
-    fn is_taken_elsewhere(&self, key: &Key, refill: u8, own: &Key) -> bool {
-        any_takes(&self.slots, key, refill, own)
+    fn is_taken_elsewhere(&self, key: &Key, refill: u8, than: &Key) -> bool {
+        any_takes(&self.slots, key, refill, than)
     }
 }

@@ -1,6 +1,6 @@
 use Rattle.std.proofs.Common.{◌+◌, min, rules, arith}
 use Rattle.hash_register.proofs.Empty.{table_of_none, contents_of_none}
-use Rattle.hash_register.proofs.table.HashRegister.new.Goals as goal
+use Rattle.hash_register.proofs.store.HashRegister.new.Goals as goal
 
 pub invariant_of-result : goal.invariant_of-result
 invariant_of-result c = record {

@@ -2,7 +2,7 @@ use Rattle.std.proofs.Common.{◌≡◌, sym, ap, ◌∙◌, rules}
 use Rattle.std.specs.Option.{option_map}
 use Rattle.hash_register.proofs.Held.{read}
 use Rattle.hash_register.proofs.Tables.{at_found}
-use Rattle.hash_register.proofs.table.HashRegisterRegister.look_up.Goals as goal
+use Rattle.hash_register.proofs.store.HashRegisterRegister.look_up.Goals as goal
 
 pub returns : goal.returns
 returns c =

@@ -1,6 +1,6 @@
 use Rattle.register.proofs.Holding.{dispensed}
 use Rattle.hash_register.proofs.Held.{walked}
-use Rattle.hash_register.proofs.table.HashRegisterRegister.is_dispensed_elsewhere.Goals as goal
+use Rattle.hash_register.proofs.store.HashRegisterRegister.is_dispensed_elsewhere.Goals as goal
 
 pub returns : goal.returns
 returns c =

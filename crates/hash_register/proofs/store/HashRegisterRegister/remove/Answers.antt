@@ -3,8 +3,8 @@ use Rattle.std.proofs.Math.Seq.{take-append_seam}
 use Rattle.hash_register.proofs.Held.{read_some}
 use Rattle.hash_register.proofs.Tables.{IsRemoved, removed, without_none, stands}
 use Rattle.hash_register.specs.Slots.{Vacates}
-use Rattle.hash_register.proofs.table.HashRegisterRegister.remove.Goals as goal
-use Rattle.hash_register.proofs.table.HashRegisterRegister.remove.Goals.{After-vacate}
+use Rattle.hash_register.proofs.store.HashRegisterRegister.remove.Goals as goal
+use Rattle.hash_register.proofs.store.HashRegisterRegister.remove.Goals.{After-vacate}
 
 made : (c : After-vacate) → IsRemoved c.args.self.now.most c.args.self.now.count c.args.self.now.slots.items c.args.key.now (take c.args.self.now.slots.len (c.vacate.new.slots ++ drop (length c.vacate.new.slots) c.args.self.now.slots.items))
 made c =

@@ -2,8 +2,8 @@ use Rattle.std.proofs.Common.{◌+◌, not, false, Some, slice_set, inl, inr, ap
 use Rattle.hash_register.proofs.Held.{read_some}
 use Rattle.hash_register.proofs.Tables.{IsCount, IsPut, put, full_answer, full_after}
 use Rattle.hash_register.specs.Slots.{slot}
-use Rattle.hash_register.proofs.table.HashRegisterRegister.put.Goals as goal
-use Rattle.hash_register.proofs.table.HashRegisterRegister.put.Goals.{After-from, else-is_new-via-then-is_new+else-self, else-is_new-via-else-is_new}
+use Rattle.hash_register.proofs.store.HashRegisterRegister.put.Goals as goal
+use Rattle.hash_register.proofs.store.HashRegisterRegister.put.Goals.{After-from, else-is_new-via-then-is_new+else-self, else-is_new-via-else-is_new}
 
 made : (c : After-from) → IsPut c.args.self.now.most c.args.self.now.count c.args.self.now.slots.items c.args.key c.args.entry (c.args.self.now.count + c.from.result) (slice_set c.args.self.now.slots.items c.find-place.result (Some (c.args.key, c.args.entry)))
 made c =
