@@ -29,8 +29,10 @@ use Rattle.lists.specs.declared.span.Span.{Span}
 -- ---- a look-up after an insert
 
 -- p passes k, or what is equal to k, only with what is equal to k
-module _ {K V : Type 0} (cmp : K → K → Ordering) (p : K → Bool) (k : K) (v : V) (one : (j : K) → p k ≡ true → p j ≡ is_eq (cmp k j)) (alike : (j : K) → cmp k j ≡ Equal → p j ≡ p k) where
-  step : (e : K × V) (es : List (K × V)) (o : Ordering) → o ≡ cmp k e.0 → lookup p (insert_entry cmp es k v) ≡ cond (p k) (Some v) (lookup p es)
+module _ {K V : Type 0} (cmp : K → K → Ordering) (p : K → Bool) (k : K) (v : V)
+    (one : (j : K) → p k ≡ true → p j ≡ is_eq (cmp k j)) (alike : (j : K) → cmp k j ≡ Equal → p j ≡ p k) where
+  step : (e : K × V) (es : List (K × V)) (o : Ordering) → o ≡ cmp k e.0
+      → lookup p (insert_entry cmp es k v) ≡ cond (p k) (Some v) (lookup p es)
       → lookup p (match_ordering o ((k, v) ∷ e ∷ es) ((e.0, v) ∷ es) (e ∷ insert_entry cmp es k v)) ≡ cond (p k) (Some v) (cond (p e.0) (Some e.1) (lookup p es))
   step e es Less h more = refl
   step e es Equal h more = let a = alike e.0 (sym h) in grind (arith, a)
@@ -44,7 +46,8 @@ length-insert_entry : {K V : Type 0} (cmp : K → K → Ordering) (k : K) (v : V
 length-insert_entry cmp k v [] = omega arith
 length-insert_entry cmp k v (e ∷ es) = one (cmp k e.0) (length-insert_entry cmp k v es)
   where
-    one : (o : Ordering) → length (insert_entry cmp es k v) ≤ length es + 1 → length (match_ordering o ((k, v) ∷ e ∷ es) ((e.0, v) ∷ es) (e ∷ insert_entry cmp es k v)) ≤ length (e ∷ es) + 1
+    one : (o : Ordering) → length (insert_entry cmp es k v) ≤ length es + 1
+        → length (match_ordering o ((k, v) ∷ e ∷ es) ((e.0, v) ∷ es) (e ∷ insert_entry cmp es k v)) ≤ length (e ∷ es) + 1
     one Less h = omega arith
     one Equal h = omega arith
     one Greater h = omega arith
@@ -121,7 +124,8 @@ fits m n h = grind (arith, nat_tests)
 
 -- the table says what the first i rows say, and has no more entries than those
 pub record IsFilled (rs : List Row) (i : ℕ) (t : Table ListedCode Span) : Type 0 where
-  pub says : (list : ℕ) (code : List ℕ) (date : Date) → has_day date (option_map dates_of (lookup (is_code list code) t.entries)) ≡ says (take i rs) list code date
+  pub says : (list : ℕ) (code : List ℕ) (date : Date)
+      → has_day date (option_map dates_of (lookup (is_code list code) t.entries)) ≡ says (take i rs) list code date
   pub few : length t.entries ≤ i
   pub most : t.most ≡ length rs
 
@@ -133,13 +137,15 @@ module _ (rs : List Row) (good : NoneIsBad rs) (i : ℕ) (d : Row) (within : i <
   none_before list code date k (suc n) h =
       let far : n < length rs = omega arith in
       let below = rises rs good d n i h within in
-      let here : row_says (get_or rs n d) list code date ≡ false = (λ x. apart list code (get_or rs n d) (get_or rs i d) below k x && has_day date (span_of (get_or rs n d))) in
+      let here : row_says (get_or rs n d) list code date ≡ false =
+      (λ x. apart list code (get_or rs n d) (get_or rs i d) below k x && has_day date (span_of (get_or rs n d))) in
       let more = list_any_more (λ r. row_says r list code date) rs n d far in
       subst (λ x. says (take x rs) list code date ≡ false) (add-one n) (more ∙ both_false _ _ (none_before list code date k n (omega arith)) here)
 
   module _ (k : ListedCode) (v : Span) (entry : IsEntry (get_or rs i d) (k, v)) where
     -- what the row says, by its entry
-    said : (list : ℕ) (code : List ℕ) (date : Date) → row_says (get_or rs i d) list code date ≡ (is_code list code k && has_day date (Some (dates_of v)))
+    said : (list : ℕ) (code : List ℕ) (date : Date)
+        → row_says (get_or rs i d) list code date ≡ (is_code list code k && has_day date (Some (dates_of v)))
     said list code date = λ x. is_of list code (sym entry.list x) (sym entry.code x) && has_day date (entry.span x)
 
     module _ (t : Table ListedCode Span) (filled : IsFilled rs i t) where
@@ -147,7 +153,8 @@ module _ (rs : List Row) (good : NoneIsBad rs) (i : ℕ) (d : Row) (within : i <
       room = let few = filled.few in let most = filled.most in or_true _ _ (fits (length t.entries) t.most (omega arith))
 
       says_more : (list : ℕ) (code : List ℕ) (date : Date) → (b : Bool) → is_code list code k ≡ b
-          → has_day date (option_map dates_of (cond b (Some v) (lookup (is_code list code) t.entries))) ≡ (says (take i rs) list code date || row_says (get_or rs i d) list code date)
+          → has_day date (option_map dates_of (cond b (Some v) (lookup (is_code list code) t.entries)))
+          ≡ (says (take i rs) list code date || row_says (get_or rs i d) list code date)
       says_more list code date true e =
           let none = none_before list code date (sym (λ x. is_of list code (entry.list x) (entry.code x)) ∙ e) i (omega arith) in
           sym ((λ x. none x || (said list code date ∙ (λ y. e y && has_day date (Some (dates_of v)))) x))

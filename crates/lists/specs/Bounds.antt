@@ -11,7 +11,8 @@ use Rattle.grammar.specs.Bytes.{within, is_sign}
 use Rattle.lists.specs.Lists.{is_listed}
 use Rattle.lists.specs.Shapes.{visit_numbers, shaped}
 
-length_among : (n : ℕ) (vs : List (List ℕ)) (c : List ℕ) → list_all (λ v. length v == n) vs ≡ true → list_any (λ v. bytes_eq v c) vs ≡ true → length c ≡ n
+length_among : (n : ℕ) (vs : List (List ℕ)) (c : List ℕ) → list_all (λ v. length v == n) vs ≡ true
+    → list_any (λ v. bytes_eq v c) vs ≡ true → length c ≡ n
 length_among n [] c all any = absurd (false≢true any)
 length_among n (v ∷ vs) c all any = let more = length_among n vs c in grind (arith, nat_tests, more, bytes_eq-Decides v c)
 

@@ -18,7 +18,8 @@ pub listed_as : (list : ℕ) (code : List ℕ) (c : ListedCode) → is_code list
 listed_as list code c h = let k = c.listed in grind (arith, nat_tests, bytes_eq-Decides code c.code)
 
 -- what a look-up finds is the first that passes or what it finds behind that
-first_or_later : (b : Bool) (date : Date) (s : Span) (o : Option Span) (P : Type 0) → (b ≡ true → P) → (IsTrue (has_day date (option_map dates_of o)) → P)
+first_or_later : (b : Bool) (date : Date) (s : Span) (o : Option Span) (P : Type 0)
+    → (b ≡ true → P) → (IsTrue (has_day date (option_map dates_of o)) → P)
     → IsTrue (has_day date (option_map dates_of (cond b (Some s) o))) → P
 first_or_later true date s o P first later h = first refl
 first_or_later false date s o P first later h = later h

@@ -1,5 +1,6 @@
 -- Code lists. Assumes nothing.
---     Meaning         which codes stand in which list on which day: a fixed yes or no for each number of a list, bytes of a code, and date
+--     Meaning         which codes stand in which list on which day: a fixed yes or no for each number of a list, bytes of a code and
+--                     date
 --     is_listed n c   whether c may be a code of list n: there are lists 1 to 7, and codes have 1 to 12 bytes
 use Rattle.std.specs.Prelude.{ℕ, Bool, ◌&&◌, List, length}
 use Rattle.calendar.specs.Calendar.{Date}

@@ -15,4 +15,6 @@ visit_numbers =
     ∷ codes "F00B" ∷ codes "CV19" ∷ codes "FORE" ∷ codes "TM01" ∷ []
 
 abbrev pub shaped : Meaning
-shaped list code _ = (within 1 6 list && (is_listed list code && list_all is_sign code)) || (list == 7 && list_any (λ n. bytes_eq n code) visit_numbers)
+shaped list code _ =
+    (within 1 6 list && (is_listed list code && list_all is_sign code))
+    || (list == 7 && list_any (λ n. bytes_eq n code) visit_numbers)

@@ -16,5 +16,6 @@ pub trait CodeLists {
         ensures { result ≡ meaning self.now list code.now (date_of day) };
 
     // Only lists 1 to 7 have codes, and only codes of 1 to 12 bytes.
-    ghost bounds: { (s : Self) (list : ℕ) (code : List ℕ) (date : Date) → IsTrue (meaning s list code date) → IsTrue (is_listed list code) };
+    ghost bounds: { (s : Self) (list : ℕ) (code : List ℕ) (date : Date)
+        → IsTrue (meaning s list code date) → IsTrue (is_listed list code) };
 }
