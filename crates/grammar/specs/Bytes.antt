@@ -4,7 +4,7 @@
 --     plain               a printable ASCII byte but for < > & " '
 --     lead, trail         the first and the second byte of a Big5 pair
 --     capital             A to Z
---     is_sign             A to Z and 0 to 9, the characters of senders and identifiers
+--     is_sign             A to Z and 0 to 9, the characters of senders, identifiers and most codes
 use Rattle.std.specs.Prelude.{ℕ, Bool, ◌&&◌, ◌||◌, ◌==◌, nat_le}
 use Rattle.calendar.specs.Digits.{is_digit}
 

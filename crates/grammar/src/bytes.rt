@@ -40,7 +40,7 @@ pub fn is_digit(b: u8) -> bool
     b.is_ascii_digit()
 }
 
-// Whether the byte may stand in a sender or an identifier.
+// Whether the byte may stand in a sender, an identifier or a code.
 pub fn is_sign(b: u8) -> bool
     ensures { result ≡ is_sign b }
 {

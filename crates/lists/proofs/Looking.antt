@@ -9,7 +9,7 @@ use Rattle.lists.proofs.Wording.{bytes_compared}
 use Rattle.lists.specs.Codes.{code_cmp}
 use Rattle.lists.specs.Entries.{dates_of}
 use Rattle.lists.specs.Kept.{bounds_of_entries}
-use Rattle.lists.specs.Lists.{is_listed}
+use Rattle.lists.specs.Lists.{may_be_listed}
 use Rattle.lists.specs.Making.{is_code}
 use Rattle.lists.specs.Spans.{has_day}
 use Rattle.lists.specs.declared.listed_code.ListedCode.{ListedCode}
@@ -21,6 +21,6 @@ same_test k j = let b = bytes_compared k.code j.code in grind (arith, nat_tests,
 pub looked_up : (k : ListedCode) (es : List (ListedCode × Span)) → lookup (is_at (code_cmp k)) es ≡ lookup (is_code k.list k.code) es
 looked_up k es = λ i. lookup (λ j. same_test k j i) es
 
-pub unlisted : (es : List (ListedCode × Span)) (list : ℕ) (code : List ℕ) (date : Date) → is_listed list code ≡ false
+pub unlisted : (es : List (ListedCode × Span)) (list : ℕ) (code : List ℕ) (date : Date) → may_be_listed list code ≡ false
     → has_day date (option_map dates_of (lookup (is_code list code) es)) ≡ false
 unlisted es list code date h = let k = bounds_of_entries es list code date in grind (arith, k)

@@ -1,7 +1,6 @@
 -- Code lists. Assumes nothing.
---     Meaning         which codes stand in which list on which day: a fixed yes or no for each number of a list, bytes of a code and
---                     date
---     is_listed n c   whether c may be a code of list n: there are lists 1 to 7, and codes have 1 to 12 bytes
+--     Meaning             which codes stand in which list on which day: a fixed yes or no for each list number, bytes of a code, and date
+--     may_be_listed n c   whether c may be a code of list n: there are lists 1 to 7, and codes have 1 to 12 bytes
 use Rattle.std.specs.Prelude.{ℕ, Bool, ◌&&◌, List, length}
 use Rattle.calendar.specs.Calendar.{Date}
 use Rattle.grammar.specs.Bytes.{within}
@@ -9,5 +8,5 @@ use Rattle.grammar.specs.Bytes.{within}
 abbrev pub Meaning : Type 0
 Meaning = ℕ → List ℕ → Date → Bool
 
-abbrev pub is_listed : ℕ → List ℕ → Bool
-is_listed n c = within 1 7 n && within 1 12 (length c)
+abbrev pub may_be_listed : ℕ → List ℕ → Bool
+may_be_listed n c = within 1 7 n && within 1 12 (length c)

@@ -16,7 +16,7 @@ use Rattle.std.specs.Option.{option_map_or}
 use Rattle.std.specs.Ordering.{on, is_lt}
 use Rattle.std.specs.Str.{bytes_eq}
 use Rattle.calendar.specs.Calendar.{Date}
-use Rattle.lists.specs.Lists.{Meaning, is_listed}
+use Rattle.lists.specs.Lists.{Meaning, may_be_listed}
 use Rattle.lists.specs.Order.{listed_cmp}
 use Rattle.lists.specs.Spans.{span_in, has_day}
 use Rattle.lists.specs.declared.row.Row.{Row}
@@ -25,7 +25,7 @@ abbrev pub span_of : Row → Option (Date × Date)
 span_of r = span_in r.first.now r.last.now
 
 abbrev pub is_lawful : Row → Bool
-is_lawful r = is_listed r.list r.code.now && is_some (span_of r)
+is_lawful r = may_be_listed r.list r.code.now && is_some (span_of r)
 
 abbrev pub row_cmp : Row → Row → Ordering
 row_cmp = on (λ r. (r.list, r.code.now)) listed_cmp

@@ -5,7 +5,7 @@ use Rattle.std.specs.Prelude.{ℕ, ◌&&◌, ◌||◌, ◌==◌, List, [], ◌�
 use Rattle.std.specs.List.{list_all, list_any}
 use Rattle.std.specs.Str.{bytes_eq}
 use Rattle.grammar.specs.Bytes.{within, is_sign}
-use Rattle.lists.specs.Lists.{Meaning, is_listed}
+use Rattle.lists.specs.Lists.{Meaning, may_be_listed}
 
 abbrev pub visit_numbers : List (List ℕ)
 visit_numbers =
@@ -16,5 +16,5 @@ visit_numbers =
 
 abbrev pub shaped : Meaning
 shaped list code _ =
-    (within 1 6 list && (is_listed list code && list_all is_sign code))
+    (within 1 6 list && (may_be_listed list code && list_all is_sign code))
     || (list == 7 && list_any (λ n. bytes_eq n code) visit_numbers)

@@ -2,7 +2,7 @@
 ghost use Rattle.std.specs.Prelude.{◌≡◌, ℕ, IsTrue, List};
 ghost use Rattle.calendar.specs.Calendar.{Date};
 ghost use Rattle.calendar.specs.Days.{date_of};
-ghost use Rattle.lists.specs.Lists.{Meaning, is_listed};
+ghost use Rattle.lists.specs.Lists.{Meaning, may_be_listed};
 
 use calendar::day::Day;
 
@@ -17,5 +17,5 @@ pub trait CodeLists {
 
     // Only lists 1 to 7 have codes, and only codes of 1 to 12 bytes.
     ghost bounds: { (s : Self) (list : ℕ) (code : List ℕ) (date : Date)
-        → IsTrue (meaning s list code date) → IsTrue (is_listed list code) };
+        → IsTrue (meaning s list code date) → IsTrue (may_be_listed list code) };
 }

@@ -44,10 +44,13 @@ impl From<AllocError> for NotMade {
 
 impl OrderedLists {
     ghost use Rattle.lists.specs.Making.{Makes};
+    ghost use Rattle.lists.specs.Order.{listed_cmp, DictionaryOrder};
 
     // The lists of the rows. A bad row is told before anything is made.
+    #[tactic(auto, using(crate::proofs::Wording::dictionary_order))]
     pub fn new(alloc: Global, rows: &[Row<'_>]) -> Result<OrderedLists, NotMade>
-        ensures { Makes rows.now result }
+        ensures made { Makes rows.now result }
+        ensures order { DictionaryOrder listed_cmp }
     {
         if let Some(place) = first_bad(rows) {
             return Err(Refusal::Row { place }.into());

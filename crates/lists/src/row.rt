@@ -12,7 +12,7 @@ use crate::span::Span;
 pub struct Row<'a> {
     pub list: u8,
     pub code: &'a [u8],
-    // the digits of a day, as those of the last
+    // the digits of a day; so has `last`
     pub first: &'a [u8],
     pub last: &'a [u8],
 }

@@ -1,4 +1,4 @@
-// Rows of which one is bad, and rows of which none is.
+// Rows of which at least one is bad, and rows of which none is.
 use crate::questions::{Written, made};
 use lists::ordered_lists::NotMade;
 use reader::faults::Refusal;

@@ -1,4 +1,4 @@
-// What can be wrong, layer by layer: in a character, in a tag, with an upload.
+// What can be wrong, layer by layer: in a character, in a tag, with an upload or the rows of code lists.
 ghost use Rattle.std.specs.Prelude.{◌≡◌};
 ghost use Rattle.reader.specs.Refusals.{number_of, cause_of, place_of, cause_number, character_to_tag, tag_to_refusal};
 
@@ -40,7 +40,7 @@ pub enum TagFault {
     Ended { place: usize },
 }
 
-// Why an upload goes back whole, or the relay's own code lists do, and the place. Numbered as the format numbers them.
+// Why an upload goes back whole, or rows of code lists are refused, and the place. Numbered as the format numbers them.
 #[derive(Clone, Copy, PartialEq, Eq, Debug)]
 pub enum Refusal {
     // 1: no bytes, or too many
