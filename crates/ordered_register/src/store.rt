@@ -14,8 +14,7 @@ use std::alloc::{AllocError, Global};
 #[derive(Drop)]
 pub struct OrderedRegister {
     pub(crate) table: OrderedTable<Key, Entry>,
-    ghost rising: { IsStrictlySortedBy key_cmp (keys_of table.entries) }
-        by { IsStrictlySortedBy-prop key_cmp (keys_of table.entries) },
+    ghost rising: { IsStrictlySortedBy key_cmp (keys_of table.entries) } by { IsStrictlySortedBy-prop key_cmp (keys_of table.entries) },
     ghost within: { length table.entries ≤ table.most },
 }
 

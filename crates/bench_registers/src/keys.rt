@@ -1,0 +1,55 @@
+// Keys for a measurement: those that stand in the register, in no order, and those to look up.
+ghost use Rattle.std.specs.Prelude.{◌≡◌, ◌<◌, ◌/◌, ◌%◌, IfOk, vec_len, length};
+ghost use Rattle.std.specs.Str.Parse.{digits_value};
+ghost use Rattle.trials.specs.Keys.{sender_of};
+ghost use Rattle.bench_registers.specs.Scatter.{scattered};
+
+use register::key::Key;
+use std::alloc::{AllocError, Global};
+use trials::dice::Dice;
+use trials::draws::key_of;
+
+// Odd, so that no two numbers below 2 to the 64 are scattered onto one.
+const SCATTER: u64 = 11_400_714_819_323_198_485;
+
+// The key with this number, which lies anywhere among the others.
+pub fn key_at(number: u64) -> Key
+    ensures sender { result.sender ≡ sender_of (scattered number % 3) }
+    ensures identifier { digits_value 10 result.identifier ≡ scattered number / 3 }
+{
+    key_of(number.wrapping_mul(SCATTER))
+}
+
+// The keys of these numbers.
+pub fn keys_of(alloc: Global, numbers: &[u64]) -> Result<Vec<Key>, AllocError>
+    ensures { IfOk result (λ keys. vec_len keys ≡ length numbers.now) }
+{
+    numbers.iter().map(|number| key_at(*number)).collect(alloc)
+}
+
+// So many numbers, from the first on.
+pub fn numbers_from(alloc: Global, first: u64, count: usize) -> Result<Vec<u64>, AllocError>
+    ensures { IfOk result (λ numbers. vec_len numbers ≡ count) }
+{
+    (0..count as u64)
+        .map(|i| first.wrapping_add(i))
+        .collect(alloc)
+}
+
+// So many keys of these numbers, drawn by the dice; none, if there are no numbers.
+pub fn drawn(
+    alloc: Global,
+    dice: &mut Dice,
+    numbers: &[u64],
+    count: usize,
+) -> Result<Vec<Key>, AllocError>
+    ensures { IfOk result (λ keys. 0 < length numbers.now → vec_len keys ≡ count) }
+{
+    let mut keys = Vec::with_capacity(alloc, count)?;
+    for _ in 0..count {
+        if let Some(&number) = numbers.get(dice.roll(numbers.len())) {
+            keys.push(key_at(number))?;
+        }
+    }
+    Ok(keys)
+}
