@@ -3,7 +3,7 @@ use reader::faults::{Cause, Refusal};
 
 type Told = (u8, Option<u8>, Option<usize>);
 
-const REFUSALS: [(Refusal, Told); 11] = [
+const REFUSALS: [(Refusal, Told); 12] = [
     (Refusal::Length, (1, None, None)),
     (Refusal::Declaration { place: 35 }, (2, None, Some(35))),
     (
