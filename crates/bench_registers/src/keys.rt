@@ -13,7 +13,7 @@ use trials::draws::key_of;
 const SCATTER: u64 = 11_400_714_819_323_198_485;
 
 // The key with this number, which lies anywhere among the others.
-pub fn key_at(number: u64) -> Key
+pub(crate) fn key_at(number: u64) -> Key
     ensures sender { result.sender ≡ sender_of (scattered number % 3) }
     ensures identifier { digits_value 10 result.identifier ≡ scattered number / 3 }
 {
@@ -21,14 +21,14 @@ pub fn key_at(number: u64) -> Key
 }
 
 // The keys of these numbers.
-pub fn keys_of(alloc: Global, numbers: &[u64]) -> Result<Vec<Key>, AllocError>
+pub(crate) fn keys_of(alloc: Global, numbers: &[u64]) -> Result<Vec<Key>, AllocError>
     ensures { IfOk result (λ keys. vec_len keys ≡ length numbers.now) }
 {
     numbers.iter().map(|number| key_at(*number)).collect(alloc)
 }
 
 // So many numbers, from the first on.
-pub fn numbers_from(alloc: Global, first: u64, count: usize) -> Result<Vec<u64>, AllocError>
+pub(crate) fn numbers_from(alloc: Global, first: u64, count: usize) -> Result<Vec<u64>, AllocError>
     ensures { IfOk result (λ numbers. vec_len numbers ≡ count) }
 {
     (0..count as u64)
@@ -37,7 +37,7 @@ pub fn numbers_from(alloc: Global, first: u64, count: usize) -> Result<Vec<u64>,
 }
 
 // So many keys of these numbers, drawn by the dice; none, if there are no numbers.
-pub fn drawn(
+pub(crate) fn drawn(
     alloc: Global,
     dice: &mut Dice,
     numbers: &[u64],

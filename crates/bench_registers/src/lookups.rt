@@ -9,7 +9,7 @@ use std::rt::Clock;
 use std::time::Instant;
 
 // How many of the keys have an entry.
-pub fn how_many_found<R: Register>(register: &R, keys: &[Key]) -> usize
+pub(crate) fn how_many_found<R: Register>(register: &R, keys: &[Key]) -> usize
     ensures { result ≡ found_in (R.contents register.now) keys.now }
 {
     keys.iter()
@@ -26,7 +26,7 @@ pub struct Times {
 }
 
 // The least time of so many passes over the keys.
-pub fn time_look_ups<R: Register>(
+pub(crate) fn time_look_ups<R: Register>(
     rt: &impl Clock,
     register: &R,
     keys: &[Key],

@@ -18,7 +18,7 @@ pub struct Row {
 }
 
 // What the columns of `print_ratios` are.
-pub fn print_columns(rt: &impl Print) -> io::Result<()> {
+pub(crate) fn print_columns(rt: &impl Print) -> io::Result<()> {
     println!(rt;
         "Times of look-ups compared: ord in key order, scat scattered; base is the row of 1 %,"
     )?;
@@ -34,7 +34,7 @@ pub fn print_columns(rt: &impl Print) -> io::Result<()> {
 }
 
 // How the times of a row compare: kind with kind, each kind with what it took in the row `base`, present keys with absent ones.
-pub fn print_ratios(rt: &impl Print, row: &Row, base: &Row) -> io::Result<()> {
+pub(crate) fn print_ratios(rt: &impl Print, row: &Row, base: &Row) -> io::Result<()> {
     let (ordered, scattered) = (row.ordered, row.scattered);
     print_sort(
         rt,
@@ -70,7 +70,7 @@ fn print_sort(
 }
 
 // What was found, in place of times.
-pub fn print_found(rt: &impl Print, row: &Row) -> io::Result<()> {
+pub(crate) fn print_found(rt: &impl Print, row: &Row) -> io::Result<()> {
     print_measured(rt, "in key order ", &row.ordered)?;
     print_measured(rt, ", scattered ", &row.scattered)?;
     println!(rt; "")

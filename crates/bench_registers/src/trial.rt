@@ -122,7 +122,7 @@ fn print_row(rt: &impl Print, plan: &Plan, row: &Row, base: &Row) -> io::Result<
 }
 
 // All fillings of one size, the last of them returned, and the churn.
-pub fn measure_size<T: AllocGlobal + Clock + Print>(
+pub(crate) fn measure_size<T: AllocGlobal + Clock + Print>(
     rt: &T,
     plan: &Plan,
     entries: usize,

@@ -123,7 +123,7 @@ const QUESTIONS: [Question; 66] = [
     (7, b"A000", b"1130615", false),
 ];
 
-pub fn made(alloc: Global, written: &[Written]) -> Result<OrderedLists, NotMade> {
+pub(crate) fn made(alloc: Global, written: &[Written]) -> Result<OrderedLists, NotMade> {
     let rows: Vec<Row<'_>> = written
         .iter()
         .map(|(list, code, first, last)| Row {
@@ -137,7 +137,7 @@ pub fn made(alloc: Global, written: &[Written]) -> Result<OrderedLists, NotMade>
 }
 
 // Asks each question, whatever kind of lists it is put to.
-pub fn answers<L: CodeLists>(
+pub(crate) fn answers<L: CodeLists>(
     rt: &impl Abort,
     lists: &L,
     questions: &[Question],

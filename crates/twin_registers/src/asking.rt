@@ -43,7 +43,7 @@ fn any_request(dice: &mut Dice, keys: usize, puts: usize, removals: usize) -> Re
 }
 
 // So many requests about few keys: of each sender about twice as many as there may be entries.
-pub fn ask_at_random(twins: &mut Twins, dice: &mut Dice, entries: usize, requests: u64) {
+pub(crate) fn ask_at_random(twins: &mut Twins, dice: &mut Dice, entries: usize, requests: u64) {
     let keys = entries
         .saturating_mul(2)
         .saturating_add(1)
@@ -58,7 +58,7 @@ pub fn ask_at_random(twins: &mut Twins, dice: &mut Dice, entries: usize, request
 }
 
 // An entry under each number, one under another, and a look at all.
-pub fn fill(twins: &mut Twins, dice: &mut Dice, numbers: &[u64]) {
+pub(crate) fn fill(twins: &mut Twins, dice: &mut Dice, numbers: &[u64]) {
     for &number in numbers {
         let entry = entry_with(dice, None);
         twins.ask(Request::Put {
@@ -75,7 +75,7 @@ pub fn fill(twins: &mut Twins, dice: &mut Dice, numbers: &[u64]) {
 }
 
 // A removal for each number, and a look at all.
-pub fn empty(twins: &mut Twins, numbers: &[u64]) {
+pub(crate) fn empty(twins: &mut Twins, numbers: &[u64]) {
     for &number in numbers {
         twins.ask(Request::Remove {
             key: key_of(number),
