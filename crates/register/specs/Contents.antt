@@ -1,15 +1,15 @@
 -- What a register holds: a finite table from keys to entries, and a greatest count. Assumes nothing.
---     Contents              the entry at each key, how many keys have one, and how many may
---     IsFinite c            the count is the number of the keys that have an entry, and no greater than the greatest count
---     holding es n          the entries es, of which no two have the same key, with room for n
---     empty n               nothing, with room for n entries
---     begun n               what a register made for n entries begins with: nothing, with room for n, or for 65,536 if n is more
---     has_room c k          an entry may be put under k: one stands there, or the greatest count is not reached
---     with_entry c k e      c with the entry e under k
---     put_answer c k        what a put under k is answered
---     put_in c k e          c after e is put under k: as it was, if it has no room for it
---     without c k           c without the entry under k
---     Elsewhere c j P       an entry of which P holds, with its key, stands under a key other than j
+--     Contents                 the entry at each key, how many keys have one, and how many may
+--     IsFinite c               the count is the number of the keys that have an entry, and no greater than the greatest count
+--     holding es n             the entries es, of which no two have the same key, with room for n
+--     empty n                  nothing, with room for n entries
+--     begun n                  what a register made for n entries begins with: nothing, with room for n, or for 65,536 if n is more
+--     has_room c k             an entry may be put under k: one stands there, or the greatest count is not reached
+--     with_entry c k e         c with the entry e under k
+--     put_answer c k           what a put under k is answered
+--     put_in c k e             c after e is put under k: as it was, if it has no room for it
+--     without c k              c without the entry under k
+--     Elsewhere c j P          an entry of which P holds, with its key, stands under a key other than j
 --     DispensedElsewhere c k   an entry with the origin k stands under a key other than k
 --     TakenElsewhere c k n j   the refill n of k is taken under a key other than j
 use Rattle.std.specs.Prelude.{◌≡◌, ◌≢◌, ℕ, ◌+◌, ◌-◌, ◌≤◌, Bool, if◌then◌else◌, ◌||◌, List, length, min, Option, Some, None, is_some, IsSomeAnd, nat_lt, Result, Ok, Err}

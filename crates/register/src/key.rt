@@ -6,7 +6,7 @@ ghost use Rattle.register.specs.Identifiers.{is_placeholder};
 
 use grammar::bytes::are_signs;
 
-// Plain bytes, so that a table can hold it; `read` makes the lawful ones.
+// Plain bytes; `read` makes the lawful ones.
 #[derive(Clone, Copy, PartialEq, Eq, Debug)]
 pub struct Key {
     pub sender: [u8; 10],

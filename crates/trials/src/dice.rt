@@ -24,7 +24,7 @@ impl Dice {
         (self.state >> 32) as usize % faces.max(1)
     }
 
-    // Brings the numbers into an order by the dice.
+    // Brings the numbers into an order by the dice. Which order that is, and how the dice lie then, is left open.
     pub fn shuffle(&mut self, numbers: &mut [u64])
         ensures { IsPermutation numbers.old numbers.new }
     {

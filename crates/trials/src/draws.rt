@@ -37,7 +37,7 @@ fn digits(number: u64) -> [u8; 20]
     digits
 }
 
-// An entry by the dice, with this origin.
+// An entry by the dice, with this origin. What else it holds is left open.
 pub fn entry_with(dice: &mut Dice, origin: Option<Key>) -> Entry
     ensures { result.origin ≡ origin }
 {
