@@ -24,8 +24,8 @@ pub enum Piece<'a> {
 }
 
 // An iterator over the pieces of an upload, which stands between two of them. Upload and place are its own fields, since what
-// is promised of it names them.
-#[derive(Drop)]
+// is promised of it names them. It is copied by whoever reads the same pieces twice, or looks ahead.
+#[derive(Clone, Copy)]
 pub struct Cursor<'a> {
     pub upload: &'a [u8],
     pub at: usize,

@@ -1,0 +1,4 @@
+pub mod Records
+pub mod Orderly
+pub mod Reading
+pub mod Ahead
