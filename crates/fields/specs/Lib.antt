@@ -1,0 +1,9 @@
+pub mod Fields
+pub mod Inverse
+pub mod Categories
+pub mod Actions
+pub mod Printed
+pub mod Needs
+pub mod Forms
+pub mod Excused
+pub mod Writing
