@@ -1,0 +1,4 @@
+pub mod Numbers
+pub mod Visits
+pub mod Orders
+pub mod Codes
