@@ -1,0 +1,99 @@
+// The rules for single records, and the three tiers in which they are tried.
+ghost use Rattle.std.specs.Prelude.{◌≡◌};
+ghost use Rattle.faults.specs.Rules.{number_of, rules_of, tiers};
+
+#[derive(Clone, Copy, Debug)]
+pub enum Rule {
+    Misplaced,
+    Repeated,
+    Unknown,
+    Missing,
+    Barred,
+    Form,
+    Dates,
+    Newborn,
+    LateCard,
+    VisitNumber,
+    Signs,
+    OrderMoment,
+    OrderNumber,
+    OrderKind,
+    Signature,
+    Code,
+    Origin,
+    Prevention,
+    Refills,
+}
+
+impl Rule {
+    pub fn number(self) -> u8
+        ensures { result ≡ number_of self }
+    {
+        match self {
+            Rule::Misplaced => 11,
+            Rule::Repeated => 12,
+            Rule::Unknown => 13,
+            Rule::Missing => 14,
+            Rule::Barred => 15,
+            Rule::Form => 16,
+            Rule::Dates => 17,
+            Rule::Newborn => 18,
+            Rule::LateCard => 19,
+            Rule::VisitNumber => 20,
+            Rule::Signs => 21,
+            Rule::OrderMoment => 22,
+            Rule::OrderNumber => 23,
+            Rule::OrderKind => 24,
+            Rule::Signature => 25,
+            Rule::Code => 26,
+            Rule::Origin => 27,
+            Rule::Prevention => 28,
+            Rule::Refills => 29,
+        }
+    }
+}
+
+// A tier is tried only of a record in which the tiers before it found no fault.
+#[derive(Clone, Copy, PartialEq, Eq, Debug)]
+pub enum Tier {
+    First,
+    Second,
+    Third,
+}
+
+impl Tier {
+    // All of them, in the order in which they are tried.
+    #[tactic(auto, unfolding(crate::specs::Rules::tiers))]
+    pub fn all() -> &'static [Tier]
+        ensures { result.now ≡ tiers }
+    {
+        &[Tier::First, Tier::Second, Tier::Third]
+    }
+
+    // The rules of the tier, in rising order of their numbers.
+    pub fn rules(self) -> &'static [Rule]
+        ensures { result.now ≡ rules_of self }
+    {
+        match self {
+            Tier::First => &[Rule::Misplaced, Rule::Repeated, Rule::Unknown],
+            Tier::Second => &[Rule::Missing, Rule::Barred, Rule::Form],
+            Tier::Third => {
+                &[
+                    Rule::Dates,
+                    Rule::Newborn,
+                    Rule::LateCard,
+                    Rule::VisitNumber,
+                    Rule::Signs,
+                    Rule::OrderMoment,
+                    Rule::OrderNumber,
+                    Rule::OrderKind,
+                    Rule::Signature,
+                    Rule::Code,
+                    Rule::Origin,
+                    Rule::Prevention,
+                    Rule::Refills,
+                ]
+            }
+        }
+    }
+}

@@ -1,0 +1,2 @@
+pub mod Ids
+pub mod Numbers
