@@ -1,0 +1,10 @@
+pub mod Lacking
+pub mod Sighting
+pub mod Striking
+pub mod Walking
+pub mod Walks
+pub mod Members
+pub mod Order
+pub mod Laws
+pub mod Few
+pub mod Uploads
