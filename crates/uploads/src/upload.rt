@@ -1,4 +1,7 @@
 // An upload that is taken.
+ghost use Rattle.std.specs.Prelude.{◌≡◌, true};
+ghost use Rattle.uploads.specs.Calls.{right_length};
+
 use calendar::day::Day;
 use grammar::lawful::LawfulUpload;
 
@@ -6,6 +9,8 @@ use grammar::lawful::LawfulUpload;
 pub struct Upload<'a> {
     // its bytes, which carry that they are lawful: reading them again cannot fail
     pub file: LawfulUpload<'a>,
+    // and no more of them than an upload may have
+    pub ghost length: { right_length file.bytes.now ≡ true },
     pub sender: &'a [u8],
     // the receipt day
     pub day: Day,
