@@ -1,16 +1,44 @@
-// Judges the upload on standard input, and prints one line of it: see docs/FORMAT.md.
+// Judges the upload on standard input, and prints what becomes of it: see docs/FORMAT.md.
 #![tactic(auto)]
 
+use faults::report::Fault;
+use faults::rules::Rule;
+use grammar::states::FieldId;
 use judging::input::judge;
-use judging::lines::Line;
+use judging::lines::{Line, Row};
+use lists::shapes::ShapeLists;
 use std::io;
 use std::io::Read;
 
 // Of the input so much is read, the first line included.
 const MOST_INPUT: u64 = 65_536;
 
+// So many faults are printed at most.
+const ROWS: usize = 4_096;
+
+// What a row holds before a fault takes it.
+const BLANK: Fault = Fault {
+    record: 0,
+    segment: 0,
+    field: FieldId {
+        letter: b'A',
+        tens: b'0',
+        ones: b'0',
+    },
+    rule: Rule::Misplaced,
+    place: 0,
+};
+
 fn main(rt: HostRuntime) -> io::Result<()> {
+    let mut rows = vec![in rt.alloc(); BLANK; ROWS]?;
     let mut input = Vec::new(rt.alloc());
     rt.stdin().take(MOST_INPUT).read_to_end(&mut input)?;
-    print!(rt; "{}", Line(judge(&input)))
+    let answer = judge(&input, &ShapeLists, &mut rows);
+    print!(rt; "{}", Line(answer))?;
+    if let Ok(counts) = answer {
+        for fault in rows.iter().take(counts.faults) {
+            print!(rt; "{}", Row(*fault))?;
+        }
+    }
+    Ok(())
 }

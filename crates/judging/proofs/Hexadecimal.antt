@@ -3,7 +3,10 @@ use Rattle.std.proofs.Common.{◌≡◌, ℕ, zero, suc, ◌+◌, ◌-◌, ◌/�
 use Rattle.std.proofs.lemmas.Bool.Decides.{eqb_tells}
 use Rattle.std.proofs.lemmas.List.{append-nil}
 use Rattle.std.specs.Fmt.{digits_onto, digits, padded_integral, format_spec, char_count}
-use Rattle.judging.specs.Lines.{hex_digit, hex_byte, records_text, place_text, refusal_text}
+use Rattle.judging.specs.Lines.{hex_digit, hex_byte, short_text, place_text, counts_text, row_text, refusal_text}
+use Rattle.faults.specs.Rules.{number_of as rule_number}
+use Rattle.faults.specs.declared.report.Fault.{Fault}
+use Rattle.judging.specs.declared.upload.Counts.{Counts}
 use Rattle.reader.specs.Refusals.{cause_number, number_of, told_cause, told_place}
 use Rattle.reader.specs.declared.faults.Cause.{Cause}
 use Rattle.reader.specs.declared.faults.Refusal.{Refusal}
@@ -57,10 +60,10 @@ byte n m acc e =
     let low : m % 16 ≡ n % 16 = omega (arith, e) in
     λ i. hex_digit (high i) ∷ hex_digit (low i) ∷ acc
 
-pub records_digits : (n : ℕ) → records_text n ≡ last_digits 4 (n % 0x10000) (10 ∷ [])
-records_digits n =
+short_digits : (n : ℕ) (acc : List ℕ) → short_text n ++ acc ≡ last_digits 4 (n % 0x10000) acc
+short_digits n acc =
     let high = n % 0x10000 / 16 / 16 in
-    byte high (n / 0x100 % 0x100) _ (omega arith) ∙ ap (last_digits 2 high) (byte (n % 0x10000) (n % 0x100) (10 ∷ []) (omega arith))
+    byte high (n / 0x100 % 0x100) _ (omega arith) ∙ ap (last_digits 2 high) (byte (n % 0x10000) (n % 0x100) acc (omega arith))
 
 place_digits : (n : ℕ) (acc : List ℕ) → place_text n ++ acc ≡ last_digits 8 (n % 0x100000000) acc
 place_digits n acc =
@@ -72,6 +75,11 @@ place_digits n acc =
     ∙ ap (last_digits 2 a) (byte b (n / 0x10000 % 0x100) _ (omega arith)
     ∙ ap (last_digits 2 b) (byte c (n / 0x100 % 0x100) _ (omega arith) ∙ ap (last_digits 2 c) (byte d (n % 0x100) acc (omega arith))))
 
+pub counts_digits : (c : Counts) → counts_text c ≡ last_digits 4 (c.records % 0x10000) (last_digits 4 (c.accepted % 0x10000) (last_digits 8 (c.faults % 0x100000000) (10 ∷ [])))
+counts_digits c =
+    short_digits c.records _
+    ∙ ap (last_digits 4 (c.records % 0x10000)) (short_digits c.accepted _ ∙ ap (last_digits 4 (c.accepted % 0x10000)) (place_digits c.faults (10 ∷ [])))
+
 pub refusal_digits : (r : Refusal) (number cause place : ℕ) → number < 256 → cause < 256 → number ≡ number_of r → cause ≡ told_cause r
     → place ≡ told_place r → refusal_text r ≡ last_digits 2 number (last_digits 2 cause (last_digits 8 (place % 0x100000000) (10 ∷ [])))
 refusal_digits r number cause place n_fits c_fits n c p =
@@ -82,3 +90,15 @@ refusal_digits r number cause place n_fits c_fits n c p =
 pub told : (o : Option Cause) (n : ℕ) → MatchOption o (n ≡ 0) (λ c. n ≡ cause_number c) → n ≡ unwrap_or (option_map cause_number o) 0
 told None n h = h
 told (Some c) n h = h
+
+pub row_digits : (f : Fault) (rule : ℕ) → f.field.letter < 256 → f.field.tens < 256 → f.field.ones < 256 → rule < 256 → rule ≡ rule_number f.rule
+    → row_text f ≡ last_digits 4 (f.«record» % 0x10000) (last_digits 4 (f.segment % 0x10000)
+    (last_digits 2 f.field.letter (last_digits 2 f.field.tens (last_digits 2 f.field.ones (last_digits 2 rule (last_digits 8 (f.place % 0x100000000) (10 ∷ [])))))))
+row_digits f rule a b c d e =
+    short_digits f.«record» _
+    ∙ ap (last_digits 4 (f.«record» % 0x10000)) (short_digits f.segment _
+    ∙ ap (last_digits 4 (f.segment % 0x10000)) (byte f.field.letter f.field.letter _ (omega arith)
+    ∙ ap (last_digits 2 f.field.letter) (byte f.field.tens f.field.tens _ (omega arith)
+    ∙ ap (last_digits 2 f.field.tens) (byte f.field.ones f.field.ones _ (omega arith)
+    ∙ ap (last_digits 2 f.field.ones) (rw (sym e) (byte rule rule _ (omega arith))
+    ∙ ap (last_digits 2 rule) (place_digits f.place (10 ∷ [])))))))

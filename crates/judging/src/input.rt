@@ -3,6 +3,9 @@ ghost use Rattle.uploads.specs.Calls.{call_of};
 ghost use Rattle.std.specs.Option.{option_map};
 ghost use Rattle.judging.specs.Inputs.{CallIn, Judged};
 
+use crate::upload::{Counts, judge_upload};
+use faults::report::Fault;
+use lists::code_lists::CodeLists;
 use reader::faults::Refusal;
 use uploads::calls::{Call, LEAST_ROWS};
 use uploads::opening::open;
@@ -22,10 +25,12 @@ pub fn call_in<'a>(input: &'a [u8]) -> Option<Call<'a>>
     })
 }
 
-// The number of records of the upload, or why it goes back whole.
-pub fn judge(input: &[u8]) -> Result<usize, Refusal>
-    ensures { Judged input.now result }
+// What becomes of the upload of an input: how many records and faults it has, and its first faults in the rows, of which those
+// beyond stay; or why it goes back whole, and then all rows stay. Nothing is allocated.
+pub fn judge<L: CodeLists>(input: &[u8], lists: &L, rows: &mut [Fault]) -> Result<Counts, Refusal>
+    ensures { Judged (L.meaning lists.now) input.now rows.old result rows.new }
 {
     let call = call_in(input).ok_or(Refusal::Call)?;
-    Ok(open(call)?.records)
+    let upload = open(call)?;
+    Ok(judge_upload(upload, lists, rows))
 }

@@ -1,13 +1,16 @@
 use Rattle.std.proofs.Common.{◌%◌, ◌^◌, ◌<◌, ◌∙◌, ap, arith}
 use Rattle.std.specs.Option.{option_map, unwrap_or}
 use Rattle.reader.specs.Refusals.{cause_number}
-use Rattle.judging.proofs.Hexadecimal.{shown, records_digits, refusal_digits, told}
+use Rattle.judging.proofs.Hexadecimal.{shown, counts_digits, refusal_digits, told}
 use Rattle.judging.proofs.lines.LineDisplay.fmt.Goals as goal
 
 pub returns-in-Ok-clause-writes : goal.returns-in-Ok-clause-writes
 returns-in-Ok-clause-writes g c =
-    let records = shown 4 (c.in-Ok.records % 0x10000) (omega arith) (omega arith) (omega arith) c.in_radix.ensures in
-    rw (c.in-Ok.is, records_digits c.in-Ok.records) (rw (c.laid_out.ensures, records) at c.writeln.ensures.writes)
+    let n = c.in-Ok.counts in
+    let records = shown 4 (n.records % 0x10000) (omega arith) (omega arith) (omega arith) c.in_radix.ensures in
+    let accepted = shown 4 (n.accepted % 0x10000) (omega arith) (omega arith) (omega arith) c.in_radix-in-Ok.ensures in
+    let faults = shown 8 (n.faults % 0x100000000) (omega arith) (omega arith) (omega arith) c.in_radix-in-Ok-2.ensures in
+    rw (c.in-Ok.is, counts_digits n) (rw (c.laid_out.ensures, records, c.laid_out-in-Ok.ensures, accepted, c.laid_out-in-Ok-2.ensures, faults) at c.writeln.ensures.writes)
 
 pub returns-in-Err-clause-writes : goal.returns-in-Err-clause-writes
 returns-in-Err-clause-writes g c =
