@@ -1,6 +1,10 @@
 -- Rules 13 to 16: what a record must hold, and in what form. Assumes nothing.
 --     is_unknown v f        rule 13: H00 is not 1, H01 no action, M07 of a visit no category
+--     need_for a c f        what a record with the action a and the category c must do with the field
 --     need v f              what the record's action and category ask of the field
+--     is_required n, bars n the need is V, and it is ~
+--     may_be_excused f      D08 and D14
+--     is_order_field g      the segment g is that of orders
 --     is_excused v f        D08 and D14 need not be written with the code in D06
 --     is_missing v f        rule 14: a required field is not written. Without any order the required fields of orders are missed together, at D02
 --     is_barred v f         rule 15: a barred field is written

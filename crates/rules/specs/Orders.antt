@@ -1,7 +1,11 @@
 -- Rules 22 to 25: what an order says. Each is told at one field, and holds at every other. Assumes nothing.
 --     moment_agrees v f     rule 22, at D01: it is the moment M11 of the visit
 --     number_is_new v f     rule 23, at D03: no earlier order has the number
+--     is_medicine v         the order is of kind 1 or M
+--     tells_use v           how and in which way a medicine is taken is told, or excused
+--     is_prescribed v       a medicine has what medicines have
 --     kind_fits v f         rule 24, at D02: a kind of order; a medicine has what medicines have
+--     needs_signature v     an order of kind 1, 2 or 3 in a normal visit
 --     is_signed v f         rule 25, at D11: of a normal visit, an order of kind 1, 2 or 3 has it
 use Rattle.std.specs.Prelude.{Bool, true, not, ◌&&◌, ◌||◌, codes}
 use Rattle.std.specs.Option.{option_map_or}

@@ -2,6 +2,7 @@
 --     own_rules f     the rules of the third tier, and rule 13, that are told at the field
 --     rules_at o      the rules that can be broken where the field o is named, or where none is
 --     Told            no other is broken at a field
+--     is_asked f      a rule but 14 can be broken by the absence of the field
 --     asks v f        the absence of the field can break a rule: by what is needed of it, or by a rule that speaks of absence
 --     Asked           no rule is broken at an absent field that is not asked for
 use Rattle.std.specs.Prelude.{◌≡◌, Bool, true, false, ◌||◌, List, [], ◌∷◌, Option, Some, None}

@@ -1,10 +1,10 @@
 -- When a rule is broken at a field. Rules 11 and 12 are about each writing of a field, and stand in the crate `verdicts`. Assumes nothing.
 --     broken r v f     whether the rule r is broken at the field f
-use Rattle.std.specs.Prelude.{Bool, false, ◌&&◌, not}
+use Rattle.std.specs.Prelude.{Bool, false, ◌&&◌, ◌||◌, not}
 use Rattle.faults.specs.declared.rules.Rule.{Rule}
 use Rattle.faults.specs.declared.rules.Rule.TheVariants.{Misplaced, Repeated, Unknown, Missing, Barred, Form, Dates, Newborn, LateCard, VisitNumber, Signs, OrderMoment, OrderNumber, OrderKind, Signature, Code, Origin, Prevention, Refills}
 use Rattle.fields.specs.declared.field.Field.{Field}
-use Rattle.rules.specs.Views.{View, is_visit, regards}
+use Rattle.rules.specs.Views.{View, is_visit, withdraws, regards}
 use Rattle.rules.specs.Needs.{is_unknown, is_missing, is_barred, is_misformed}
 use Rattle.rules.specs.Visits.{dates_fit, newborn_fits, card_fits, number_fits, signs_fit, source_is_told, prevention_fits, refills_fit}
 use Rattle.rules.specs.Orders.{moment_agrees, number_is_new, kind_fits, is_signed}
@@ -21,7 +21,7 @@ broken Dates v f = not (dates_fit v f) && is_visit v
 broken Newborn v f = not (newborn_fits v f) && is_visit v
 broken LateCard v f = not (card_fits v f) && is_visit v
 broken VisitNumber v f = not (number_fits v f) && is_visit v
-broken Signs v f = not (signs_fit v f) && regards v f
+broken Signs v f = not (signs_fit v f) && ((is_visit v || withdraws v) && regards v f)
 broken OrderMoment v f = not (moment_agrees v f) && is_visit v
 broken OrderNumber v f = not (number_is_new v f) && is_visit v
 broken OrderKind v f = not (kind_fits v f) && is_visit v

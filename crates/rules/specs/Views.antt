@@ -9,6 +9,8 @@
 --     is_visit v        whether it is the record of a visit: a normal or an exceptional one
 --     is_normal v       whether it is that of a normal visit
 --     withdraws v       whether it cancels or deletes
+--     is_visit_action, is_normal_action, withdraws_by
+--                       the same of an action, if there is one
 --     is_kept f         whether the field counts in a record that withdraws too: H00, H01, M03, M04, M05 and M15
 --     regards v f       whether the record's rules look at the field at all
 use Rattle.std.specs.Prelude.{ℕ, Bool, true, false, not, ◌||◌, ◌==◌, List, length, Option, Some}

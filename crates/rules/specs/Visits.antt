@@ -1,5 +1,6 @@
 -- Rules 17 to 21 and 27 to 29: what the fields of a visit say together. Each is told at one field, and holds at every other. Assumes nothing.
 --     dates_fit v f           rule 17, at M11: the birth day M04 is not after the visit, nor the visit after the receipt day
+--     is_newborn v            M08, M09 and M10 fit a newborn of the patient
 --     newborn_fits v f        rule 18, at M08: of M08, M09 and M10 none is written, or all are, and they fit a newborn of the patient
 --     card_fits v f           rule 19, at M12: it is 1, without M52, or 2, with M49 and M52
 --     number_fits v f         rule 20, at M13: a normal visit has the visit number that its category may have

@@ -23,7 +23,11 @@ impl<'a, L: CodeLists> Seen<'a, L> {
             Rule::Newborn => !self.newborn_fits(field) && self.is_visit(),
             Rule::LateCard => !self.card_fits(field) && self.is_visit(),
             Rule::VisitNumber => !self.number_fits(field) && self.is_visit(),
-            Rule::Signs => !self.signs_fit(field) && self.regards(field),
+            Rule::Signs => {
+                !self.signs_fit(field)
+                    && (self.is_visit() || self.withdraws())
+                    && self.regards(field)
+            }
             Rule::OrderMoment => !self.moment_agrees(field) && self.is_visit(),
             Rule::OrderNumber => !self.number_is_new(field) && self.is_visit(),
             Rule::OrderKind => !self.kind_fits(field) && self.is_visit(),

@@ -43,4 +43,4 @@ module _ (s : Setting) where
       inl (omega (arith, law.numbered y i, later, length-append behind f.front, length-append before (x ∷ []))))
 
 pub upload_law : (s : Setting) (rs : List Record) → UploadLaw s rs
-upload_law s rs = record { only = only s rs; every = every s rs; rises = λ upload h. rise s upload [] rs h }
+upload_law s rs = record { each = λ front x back e. fault_law s (1 + length front) x; only = only s rs; every = every s rs; rises = λ upload h. rise s upload [] rs h }

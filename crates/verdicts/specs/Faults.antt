@@ -1,13 +1,19 @@
 -- The faults of a record. Assumes nothing.
 --     again before w            a field of the same ID is written among those before w
+--     is_kept_id i              the ID of a field that counts in a record that withdraws too
 --     counts v i                the record looks at fields of that ID at all: one that withdraws another has few that count
 --     offends r v g again w     a field w that has a value breaks the rule r in the segment g: it does not stand there, or has no row (11); it stands there once more (12); or its value breaks it, which is the first
 --     strikes r v g again w     so it is, and w has a value
 --     lacks r v f               the absence of the field breaks the rule
 --     place_of r w              where a fault of a field that is written stands: at its tag for 11 and 12, else at its value
+--     fault n k r i p           the fault of the rule r in the record n, segment k, at a field with the ID i and the place p
+--     lacking, striking         that of an absent field and that of a written one, where there is one
 --     part_faults r v n k p     what the segment p, of the number k in the record of the number n, breaks of the rule: first the absent fields in their order, at its tag, then the written ones in theirs
+--     head_faults, order_faults what header and visit break of the rule, and an order behind those before it
 --     rule_faults s n x r       what the record breaks of the rule
 --     tier_faults s n x t       what it breaks of the tier's rules, one after the other
+--     first_told xs ys          xs, if it has any, else ys
+--     tiers_faults s n x ts     what it breaks of the first of the tiers ts that it breaks
 --     faults_of s n x           its faults: those of the first tier that it breaks
 use Rattle.std.specs.Prelude.{ℕ, ◌+◌, Bool, false, not, ◌&&◌, ◌||◌, List, [], ◌∷◌, ◌++◌, length, is_none}
 use Rattle.std.specs.List.{flat_map, list_any}

@@ -3,6 +3,7 @@
 --     setting m day lists the setting on the day, with lists of the meaning m
 --     fields_in x fs g    the fields that are seen of the segment g, where fs are those of the order that is judged
 --     number_of_order o   the number of an order, if it has one
+--     has_number n o      whether that is n
 --     AtOrders s x before v   v is what is seen behind the orders before
 --     view s x before fs  what is seen of the record x at an order with the fields fs, behind the orders before; before the orders, none of either
 use Rattle.std.specs.Prelude.{◌≡◌, ℕ, Bool, false, ◌==◌, List, length, Option, nat_lt}

@@ -4,7 +4,8 @@
 --     verdicts_in s rs      their verdicts
 --     accepted_in s rs      how many of them have none
 --     InRecord s rs y       y is a fault of one of them
---     UploadLaw s rs        what the list faults_in s rs is:
+--     UploadLaw s rs        what the list faults_in s rs is, and the faults of each record:
+--         each              of each record what FaultLaw says: its verdict is the lowest rule that it breaks, and none exactly if it breaks nothing
 --         only, every       it has the faults of the records, and all of them
 --         rises             where the records are well formed, each stands before those that follow it: so none is there twice
 use Rattle.std.specs.Prelude.{◌≡◌, ℕ, ◌+◌, List, [], ◌∷◌, ◌++◌, length, Option, is_none, count_by}
@@ -18,7 +19,7 @@ use Rattle.faults.specs.declared.report.Fault.{Fault}
 use Rattle.faults.specs.declared.rules.Rule.{Rule}
 use Rattle.verdicts.specs.Sights.{Setting}
 use Rattle.verdicts.specs.Faults.{faults_of}
-use Rattle.verdicts.specs.Laws.{Listed}
+use Rattle.verdicts.specs.Laws.{Listed, FaultLaw}
 
 abbrev pub verdict_in : Setting → ℕ → Record → Option Rule
 verdict_in s n x = verdict_of (faults_of s n x)
@@ -40,6 +41,7 @@ pub record InRecord (s : Setting) (rs : List Record) (y : Fault) : Type 0 where
   pub listed : Listed s (1 + length front) at y
 
 pub record UploadLaw (s : Setting) (rs : List Record) : Type 0 where
+  pub each : (front : List Record) (x : Record) (back : List Record) → rs ≡ front ++ (x ∷ back) → FaultLaw s (1 + length front) x
   pub only : (y : Fault) → In y (faults_in s rs) → InRecord s rs y
   pub every : (y : Fault) → InRecord s rs y → In y (faults_in s rs)
   pub rises : (upload : List ℕ) → All (WellFormed upload) rs → Rises (faults_in s rs)

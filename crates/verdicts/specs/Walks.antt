@@ -4,6 +4,7 @@
 --     offences only v g n k again w   what it breaks of the rule, or of any that can be broken there
 --     striking_any only v g n k before w    so it is with any written field
 --     part_walk only v n k p          what a segment breaks so
+--     head_walk, order_walk           header and visit, and an order behind those before it
 --     record_walk s n x only          what the record breaks so, segment by segment
 use Rattle.std.specs.Prelude.{ℕ, ◌+◌, Bool, List, [], ◌++◌, length, Option, Some, None}
 use Rattle.std.specs.List.{flat_map}

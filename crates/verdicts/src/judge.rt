@@ -1,8 +1,6 @@
 // The faults of a record, tier by tier.
-ghost use Rattle.std.specs.Prelude.{◌≡◌, ℕ, None, [], IsTrue};
+ghost use Rattle.std.specs.Prelude.{◌≡◌, None, [], IsTrue};
 ghost use Rattle.faults.specs.Reports.{begun, told};
-ghost use Rattle.faults.specs.Rules.{rules_of};
-ghost use Rattle.faults.specs.declared.rules.Rule.{Rule};
 ghost use Rattle.records.specs.Reading.{record_of};
 ghost use Rattle.rules.specs.Sight.{view_of};
 ghost use Rattle.verdicts.specs.Faults.{faults_of, tier_faults};
