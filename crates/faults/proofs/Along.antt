@@ -1,8 +1,8 @@
 -- Lists that are made part by part. Assumes nothing.
-use Rattle.std.proofs.Common.{◌≡◌, ℕ, Bool, true, false, ◌+◌, ◌<◌, ◌⊎◌, inl, inr, ⊎_elim, List, [], ◌∷◌, ◌++◌, length, take, get_or, refl, sym, ap, subst, ◌∙◌}
+use Rattle.std.proofs.Common.{◌≡◌, ℕ, zero, suc, Bool, true, false, ◌+◌, ◌<◌, ◌⊎◌, inl, inr, ⊎_elim, List, [], ◌∷◌, ◌++◌, length, take, get_or, Some, refl, sym, ap, subst, ◌∙◌, arith}
 use Rattle.std.proofs.lemmas.List.{append_assoc, append-nil, take_more}
 use Rattle.std.proofs.lemmas.List.Concat.{flat_map-append}
-use Rattle.std.specs.List.{flat_map, AllByRecursion}
+use Rattle.std.specs.List.{flat_map, slice_get, AllByRecursion}
 use Rattle.faults.specs.Along.{given, along, In, Found, FoundBy}
 
 -- what is in a list
@@ -24,6 +24,11 @@ module _ {A : Type 0} where
 
   pub in_at : (front : List A) (x : A) (back : List A) → In x (front ++ (x ∷ back))
   in_at front x back = in_right x front (x ∷ back) (inl refl)
+
+  pub in_got : (xs : List A) (k : ℕ) (x : A) → slice_get xs k ≡ Some x → In x xs
+  in_got [] k x e = absurd (grind arith)
+  in_got (y ∷ xs) zero x e = inl (grind arith)
+  in_got (y ∷ xs) (suc k) x e = inr (in_got xs k x e)
 
   pub all_from_in : (P : A → Type 0) (xs : List A) → ((x : A) → In x xs → P x) → AllByRecursion P xs
   all_from_in P [] h = tt

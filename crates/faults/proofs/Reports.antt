@@ -11,26 +11,27 @@ use Rattle.faults.specs.declared.report.Report.{Report}
 use Rattle.faults.specs.declared.rules.Rule.{Rule}
 use Rattle.faults.proofs.Along.{along_push}
 
--- nothing in place of the first rows
-overwritten_none : (rows : List Fault) → overwritten rows [] ≡ rows
-overwritten_none [] = refl
-overwritten_none (x ∷ rows) = refl
+module _ {A : Type 0} where
+  -- nothing in place of the first rows
+  pub overwritten_none : (rows : List A) → overwritten rows [] ≡ rows
+  overwritten_none [] = refl
+  overwritten_none (x ∷ rows) = refl
 
--- no rows
-overwritten_nil : (fs : List Fault) → overwritten [] fs ≡ []
-overwritten_nil [] = refl
-overwritten_nil (f ∷ fs) = refl
+  -- no rows
+  overwritten_nil : (xs : List A) → overwritten [] xs ≡ []
+  overwritten_nil [] = refl
+  overwritten_nil (x ∷ xs) = refl
 
--- one fault more, in the row behind
-overwritten_more : (rows fs : List Fault) (f : Fault) → set (overwritten rows fs) (length fs) f ≡ overwritten rows (fs ++ f ∷ [])
-overwritten_more [] fs f = rw (overwritten_nil fs, overwritten_nil (fs ++ f ∷ [])) refl
-overwritten_more (x ∷ rows) [] f = ap (λ l. f ∷ l) (sym (overwritten_none rows))
-overwritten_more (x ∷ rows) (y ∷ fs) f = ap (λ l. y ∷ l) (overwritten_more rows fs f)
+  -- one more, in the row behind
+  pub overwritten_more : (rows xs : List A) (x : A) → set (overwritten rows xs) (length xs) x ≡ overwritten rows (xs ++ x ∷ [])
+  overwritten_more [] xs x = rw (overwritten_nil xs, overwritten_nil (xs ++ x ∷ [])) refl
+  overwritten_more (y ∷ rows) [] x = ap (λ l. x ∷ l) (sym (overwritten_none rows))
+  overwritten_more (y ∷ rows) (z ∷ xs) x = ap (λ l. z ∷ l) (overwritten_more rows xs x)
 
-length-overwritten : (rows fs : List Fault) → length (overwritten rows fs) ≡ length rows
-length-overwritten [] fs = ap length (overwritten_nil fs)
-length-overwritten (x ∷ rows) [] = refl
-length-overwritten (x ∷ rows) (f ∷ fs) = ap suc (length-overwritten rows fs)
+  pub length-overwritten : (rows xs : List A) → length (overwritten rows xs) ≡ length rows
+  length-overwritten [] xs = ap length (overwritten_nil xs)
+  length-overwritten (y ∷ rows) [] = refl
+  length-overwritten (y ∷ rows) (x ∷ xs) = ap suc (length-overwritten rows xs)
 
 -- a fault for which there is no count more finds no row either
 set_counted : (rows : List Fault) (n : ℕ) (f : Fault) → length rows < 2 ^ 64 → set rows (min n (2 ^ 64 - 1)) f ≡ set rows n f

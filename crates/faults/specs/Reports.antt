@@ -4,7 +4,7 @@
 --     told_one r f          r after the fault f was told
 --     told r fs             r after the faults fs were told, one after the other
 --     Told start fs r       from start to r the faults fs were told, one after the other and of however many records: the verdict aside
---     overwritten rows fs   the rows with the faults fs in place of the first of them, as far as the rows reach
+--     overwritten rows xs   the rows with xs in place of the first of them, as far as the rows reach
 --     verdict_of fs         the rule of the first of the faults fs, if there is one
 --     Holds rows fs r       r was lent the rows, and fs is all that was told
 use Rattle.std.specs.Prelude.{◌≡◌, ◌+◌, ◌-◌, ◌^◌, List, [], ◌∷◌, ◌++◌, length, take, drop, Option, Some, None, min, slice_set}
@@ -34,8 +34,8 @@ told r fs = fold told_one r fs
 pub record Told (start : Report) (fs : List Fault) (r : Report) : Type 0 where
   pub but_verdict : begun r ≡ begun (told start fs)
 
-abbrev pub overwritten : List Fault → List Fault → List Fault
-overwritten rows fs = take (length rows) fs ++ drop (length fs) rows
+abbrev pub overwritten : {A : Type 0} → List A → List A → List A
+overwritten rows xs = take (length rows) xs ++ drop (length xs) rows
 
 abbrev pub verdict_of : List Fault → Option Rule
 verdict_of [] = None

@@ -1,4 +1,4 @@
-// The rules for single records, and the three tiers in which they are tried.
+// The rules for records, and the three tiers in which a record is tried by itself.
 ghost use Rattle.std.specs.Prelude.{◌≡◌};
 ghost use Rattle.faults.specs.Rules.{number_of, rules_of, tiers};
 
@@ -23,6 +23,13 @@ pub enum Rule {
     Origin,
     Prevention,
     Refills,
+    // of no tier: these are tried against what stands in a register
+    Unmatched,
+    Late,
+    Dispensed,
+    Prescription,
+    Uncancellable,
+    NoRoom,
 }
 
 impl Rule {
@@ -49,11 +56,17 @@ impl Rule {
             Rule::Origin => 27,
             Rule::Prevention => 28,
             Rule::Refills => 29,
+            Rule::Unmatched => 30,
+            Rule::Late => 31,
+            Rule::Dispensed => 32,
+            Rule::Prescription => 33,
+            Rule::Uncancellable => 34,
+            Rule::NoRoom => 35,
         }
     }
 }
 
-// A tier is tried only of a record in which the tiers before it found no fault.
+// The tiers in which a record is tried by itself. Each is tried only of a record in which those before it found no fault.
 #[derive(Clone, Copy, PartialEq, Eq, Debug)]
 pub enum Tier {
     First,

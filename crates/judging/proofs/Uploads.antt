@@ -1,15 +1,19 @@
 -- Judging one record of an upload after another. Assumes nothing.
-use Rattle.std.proofs.Common.{◌≡◌, ℕ, Bool, not, min, ◌-◌, ◌*◌, true, false, if◌then◌else◌, ◌+◌, ◌<◌, ◌≤◌, ◌^◌, List, [], ◌∷◌, ◌++◌, length, None, Some, Option, refl, sym, ap, ◌∙◌, subst, arith, length-append}
+use Rattle.std.proofs.Common.{◌≡◌, ℕ, Bool, not, min, ◌-◌, ◌*◌, true, false, if◌then◌else◌, ◌+◌, ◌<◌, ◌≤◌, ◌^◌, List, [], ◌∷◌, ◌++◌, length, map, None, Some, Option, refl, sym, ap, ◌∙◌, subst, arith, length-append}
 use Rattle.std.proofs.lemmas.List.Sums.{fold-append}
 use Rattle.std.specs.Prelude.{is_none, is_some, count_by}
 use Rattle.std.proofs.lemmas.Bool.Decides.{nat_tests}
+use Rattle.std.specs.Iterator.{Yields}
 use Rattle.uploads.specs.Calls.{right_length}
+use Rattle.uploads.specs.declared.upload.Upload.{Upload}
+use Rattle.grammar.proofs.Tested.{lawful_from_test}
 use Rattle.grammar.specs.Grammar.{Lawful}
 use Rattle.grammar.specs.Items.{items_of}
 use Rattle.records.specs.Records.{Record, records_of}
-use Rattle.records.specs.Orderly.{WellFormed}
-use Rattle.records.specs.Reading.{ReadsFrom, record_of}
+use Rattle.records.specs.Reading.{record_of, records_left, records_upload, GivesRecord}
 use Rattle.records.specs.declared.passing.OpenRecord.{OpenRecord}
+use Rattle.records.specs.declared.passing.Records.{Records}
+use Rattle.records.proofs.Yielded.{records_so_far}
 use Rattle.faults.specs.Reports.{begun, told, Told}
 use Rattle.faults.specs.declared.report.Fault.{Fault}
 use Rattle.faults.specs.declared.report.Report.{Report}
@@ -18,7 +22,6 @@ use Rattle.faults.proofs.Along.{along_push}
 use Rattle.faults.proofs.Reports.{told_more, verdict-told}
 use Rattle.verdicts.specs.Sights.{Setting}
 use Rattle.verdicts.specs.Faults.{faults_of}
-use Rattle.verdicts.specs.Reading.{InOrder}
 use Rattle.records.proofs.Uploads.{records_stand, records_within}
 use Rattle.faults.specs.Reports.{overwritten}
 use Rattle.verdicts.proofs.Few.{faults_few}
@@ -33,13 +36,6 @@ pub record Judged (s : Setting) (rs : List Record) (start now : Report) (judged 
   pub counted : judged ≡ length rs
   pub passed : accepted ≡ accepted_in s rs
   pub few : accepted ≤ judged
-
-pub in_order : (upload : List ℕ) (x : OpenRecord) → ReadsFrom upload x → WellFormed upload (record_of x) → length upload < 2 ^ 64 → InOrder x
-in_order upload x r w l = record {
-  reads = record { header = refl; visit = r.visit ∙ sym r.header };
-  stands = subst (λ u. WellFormed u (record_of x)) (sym r.header) w;
-  fits = subst (λ u. length u < 2 ^ 64) (sym r.header) l;
-}
 
 faults_more : (s : Setting) (rs : List Record) (x : Record) → faults_in s (rs ++ x ∷ []) ≡ faults_in s rs ++ faults_of s (1 + length rs) x
 faults_more s rs x = along_push (λ before y. faults_of s (1 + length before) y) rs x
@@ -60,17 +56,20 @@ one_more : (b : Bool) (n m k : ℕ) → n ≡ m + (if b then 1 else 0) → m ≤
 one_more true n m k e l = omega (arith, e, l)
 one_more false n m k e l = omega (arith, e, l)
 
-pub judged_more : (s : Setting) (rs : List Record) (x : Record) (start now next : Report) (judged accepted after : ℕ) → next ≡ told (begun now) (faults_of s (1 + length rs) x)
+pub judged_more : (s : Setting) (rs : List Record) (x : Record) (start now next : Report) (judged accepted after : ℕ) → next ≡ told (begun now) (faults_of s (judged + 1) x)
     → after ≡ accepted + (if is_none next.verdict then 1 else 0) → Judged s rs start now judged accepted → Judged s (rs ++ x ∷ []) start next (judged + 1) after
 judged_more s rs x start now next judged accepted after e m j = record {
-  told = subst (λ fs. Told start fs next) (sym (faults_more s rs x)) (told_more (faults_of s (1 + length rs) x) j.told e);
+  told = subst (λ fs. Told start fs next) (sym (faults_more s rs x)) (told_more (faults_of s (1 + length rs) x) j.told tells);
   counted = omega (arith, j.counted, length-append rs (x ∷ []));
   passed =
       m ∙ ap (λ n. n + (if is_none next.verdict then 1 else 0)) j.passed
-      ∙ ap (λ v. accepted_in s rs + (if is_none v then 1 else 0)) (verdict_is s (1 + length rs) x now next e)
+      ∙ ap (λ v. accepted_in s rs + (if is_none v then 1 else 0)) (verdict_is s (1 + length rs) x now next tells)
       ∙ sym (accepted_more s rs x);
   few = one_more (is_none next.verdict) after accepted judged m j.few;
 }
+  where
+    tells : next ≡ told (begun now) (faults_of s (1 + length rs) x)
+    tells = let number : judged + 1 ≡ 1 + length rs = omega (arith, j.counted) in e ∙ ap (λ n. told (begun now) (faults_of s n x)) number
 
 pub few_bytes : (bs : List ℕ) → right_length bs ≡ true → length bs < 2 ^ 64
 few_bytes bs h = grind (arith, nat_tests)
@@ -85,8 +84,20 @@ fails n None {b} e h = absurd (let k : false ≡ not false = subst (λ t. false 
 fails n (Some r) e h = omega arith
 
 -- the records can be counted
-pub countable : (bs : List ℕ) (l : Lawful bs) (front : List Record) (x : Record) (back : List Record) → right_length bs ≡ true → records_of (items_of l) ≡ front ++ (x ∷ back) → length front + 1 < 2 ^ 64
+countable : (bs : List ℕ) (l : Lawful bs) (front : List Record) (x : Record) (back : List Record) → right_length bs ≡ true → records_of (items_of l) ≡ front ++ (x ∷ back) → length front + 1 < 2 ^ 64
 countable bs l front x back h e = omega (arith, few_bytes bs h, records_within bs l, ap length e, length-append front (x ∷ back))
+
+-- a loop over them, between two turns: those that were given, and those that are left
+module _ (upload : Upload) {begun from : Records} (now : Records) (xs : List OpenRecord)
+    (all : (l : Lawful upload.file.bytes.now) → records_left begun ≡ records_of (items_of l)) (reads : records_upload begun ≡ upload.file.bytes.now) (same : from ≡ begun) (gave : Yields GivesRecord from xs now) where
+  pub parted : (l : Lawful upload.file.bytes.now) → records_of (items_of l) ≡ map record_of xs ++ records_left now
+  parted l = (records_so_far upload.file.bytes.now (records_of (items_of l)) begun from now xs (all l) reads same gave).parted
+
+  -- one more can be counted
+  pub one_more_fits : (x : OpenRecord) (next : Records) → GivesRecord now (Some x) next → length (map record_of xs) + 1 < 2 ^ 64
+  one_more_fits x next g =
+      let l = lawful_from_test upload.file.bytes.now upload.file.lawful in
+      countable upload.file.bytes.now l (map record_of xs) (record_of x) _ upload.length (parted l ∙ ap (λ rs. map record_of xs ++ rs) g.gives)
 
 -- all records of an upload are judged
 pub tells_of : (s : Setting) (bs : List ℕ) (rs : List Record) (rows now : List Fault) (c : Counts) → right_length bs ≡ true → ((l : Lawful bs) → records_of (items_of l) ≡ rs)

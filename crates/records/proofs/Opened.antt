@@ -15,7 +15,9 @@ use Rattle.cursor.specs.declared.cursor.Cursor.{Cursor}
 use Rattle.cursor.specs.declared.cursor.Piece.{Piece}
 use Rattle.cursor.specs.declared.cursor.Piece.TheVariants.{Structure}
 use Rattle.cursor.proofs.Left.{left_is}
-use Rattle.records.specs.Records.{Follows, behind, orders_ahead, close_ahead}
+use Rattle.records.specs.Records.{Follows, part_ahead, behind, orders_ahead, close_ahead, record_ahead}
+use Rattle.records.specs.Parts.{part_of, read_of}
+use Rattle.records.specs.declared.part.OpenPart.{OpenPart}
 
 -- behind <REC> a record is read
 opened : {s n : State} → Turn s (Open Rec) n → n ≡ Record
@@ -58,3 +60,8 @@ begun at (turns opens_header p) = header (at + 5) p
 
 pub orders_behind : (is : List Item) → Follows Record is → OrdersBehind is
 orders_behind is f = subst OrdersBehind (sym f.read) (begun f.at f.path)
+
+-- the parts that begin ahead are those of the record whose items come next
+pub read_ahead : (header visit : OpenPart) (is : List Item) → Follows Record is → part_of header ≡ part_ahead Header is → part_of visit ≡ part_ahead Visit is
+    → left visit.cursor ≡ behind Visit is → read_of header visit ≡ record_ahead is
+read_ahead header visit is f h v l = let orders = orders_behind is f in rw (h, v, l, orders.0, orders.1) refl

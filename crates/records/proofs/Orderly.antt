@@ -1,5 +1,5 @@
 -- The record behind <REC> is well formed. Assumes nothing.
-use Rattle.std.proofs.Common.{ℕ, ◌+◌, ◌≤◌, Bool, true, false, if◌then◌else◌, List, [], ◌∷◌, length, sym, refl, subst, arith}
+use Rattle.std.proofs.Common.{◌≡◌, ℕ, ◌+◌, ◌^◌, ◌<◌, ◌≤◌, Bool, true, false, if◌then◌else◌, List, [], ◌∷◌, length, sym, refl, ◌∙◌, subst, arith}
 use Rattle.std.specs.List.{All}
 use Rattle.std.proofs.lemmas.List.Elements.{All-nil, All-cons, All-head, All-tail}
 use Rattle.grammar.specs.Grammar.{opens_header, closes_header, opens_body, opens_visit, closes_visit, opens_order, closes_order, closes_body, Rest, skips, turns, holds}
@@ -12,6 +12,8 @@ use Rattle.grammar.specs.declared.states.Tag.TheVariants.{Open, Close}
 use Rattle.cursor.specs.Left.{left}
 use Rattle.cursor.specs.declared.cursor.Cursor.{Cursor}
 use Rattle.records.specs.Records.{Part, Lies, begins, fields_ahead, part_ahead, orders_ahead, close_ahead, record_ahead, Follows}
+use Rattle.records.specs.Parts.{part_upload, read_of, InOrder}
+use Rattle.records.specs.declared.part.OpenPart.{OpenPart}
 use Rattle.records.specs.Orderly.{fields_rise, part_rises, parts_rise, Orderly, Stands, WellFormed}
 use Rattle.records.proofs.Lying.{ItemLies, left_lies}
 
@@ -110,3 +112,12 @@ module _ (upload : List ℕ) where
 pub well_formed : (c : Cursor) → Follows InRecord (left c) → WellFormed c.upload.now (record_ahead (left c))
 well_formed c f =
     stands c.upload.now (left c) (subst (λ is. Orderly (record_ahead is)) (sym f.read) (in_record f.at f.path)) (left_lies c)
+
+-- so is what is opened there, in its upload
+pub parts_in_order : (from : Cursor) (header visit : OpenPart) → Follows InRecord (left from) → read_of header visit ≡ record_ahead (left from)
+    → part_upload header ≡ from.upload.now → part_upload visit ≡ from.upload.now → length from.upload.now < 2 ^ 64 → InOrder header visit
+parts_in_order from header visit f e h v l = record {
+  reads = v ∙ sym h;
+  stands = subst (λ u. WellFormed u (read_of header visit)) (sym h) (subst (WellFormed from.upload.now) (sym e) (well_formed from f));
+  fits = subst (λ u. length u < 2 ^ 64) (sym h) l;
+}

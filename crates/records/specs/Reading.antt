@@ -2,7 +2,7 @@
 --     written_of o                  a field without its loan
 --     fields_left f, orders_left o, records_left r
 --                                   what they have still to give
---     part_of p, record_of r        what is read from a part and from a record
+--     part_of p, record_of r        what is read from a part and from a record, as in Parts
 --     ..._upload                    the bytes that they read
 --     ReadsFrom upload r            both parts of the record are read from the upload
 --     GivesField old r new          the call gives the first of the fields and leaves the others, in the same upload; the field lies in that
@@ -13,6 +13,8 @@ use Rattle.std.specs.Iterator.{YieldsFirstBy}
 use Rattle.cursor.specs.Left.{left}
 use Rattle.records.specs.Records.{Written, Part, Record, fields_ahead, orders_ahead, close_ahead, records_of, or_unordered, Lies}
 use Rattle.records.specs.Orderly.{WellFormed}
+pub use Rattle.records.specs.Parts.{part_of, part_upload}
+use Rattle.records.specs.Parts.{read_of}
 use Rattle.records.specs.declared.fields.Occurrence.{Occurrence}
 use Rattle.records.specs.declared.fields.Fields.{Fields}
 use Rattle.records.specs.declared.part.OpenPart.{OpenPart}
@@ -34,12 +36,6 @@ pub record GivesField (old : Fields) (r : Option Occurrence) (new : Fields) : Ty
   pub lies : IfSome r (λ x. Lies (fields_upload old) (written_of x))
   pub upload : fields_upload new ≡ fields_upload old
 
-abbrev pub part_of : OpenPart → Part
-part_of p = record { segment = p.segment; tag = p.tag; fields = fields_ahead (left p.cursor) }
-
-abbrev pub part_upload : OpenPart → List ℕ
-part_upload p = p.cursor.upload.now
-
 abbrev pub orders_left : Orders → List Part
 orders_left o =
     if o.given then orders_ahead (left o.cursor) else or_unordered (close_ahead (left o.cursor)) (orders_ahead (left o.cursor))
@@ -53,12 +49,7 @@ pub record GivesOrder (old : Orders) (r : Option OpenPart) (new : Orders) : Type
   pub upload : orders_upload new ≡ orders_upload old
 
 abbrev pub record_of : OpenRecord → Record
-record_of r = record {
-  header = part_of r.header;
-  visit = part_of r.visit;
-  orders = orders_ahead (left r.visit.cursor);
-  close = close_ahead (left r.visit.cursor);
-}
+record_of r = read_of r.header r.visit
 
 pub record ReadsFrom (upload : List ℕ) (r : OpenRecord) : Type 0 where
   pub header : part_upload r.header ≡ upload

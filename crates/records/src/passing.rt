@@ -3,21 +3,24 @@ ghost use Rattle.std.specs.Prelude.{◌≡◌, length, nat_lt};
 ghost use Rattle.cursor.specs.Left.{left};
 ghost use Rattle.records.specs.Records.{record_ahead, order_parts, Follows};
 ghost use Rattle.records.specs.Orderly.{WellFormed};
-ghost use Rattle.records.specs.Reading.{record_of, ReadsFrom, part_upload, orders_left, orders_upload};
+ghost use Rattle.records.specs.Parts.{InOrder, InOrder-prop};
 
 use crate::orders::{Ahead, Orders};
 use crate::part::OpenPart;
 use cursor::cursor::{Cursor, Piece};
 use grammar::states::{Element, Segment, State, Tag};
 
-// A record that can be read as often as wanted. Its orders come behind its visit.
+// A record that can be read as often as wanted, and that is known to be in order. Its orders come behind its visit.
 #[derive(Clone, Copy)]
 pub struct OpenRecord<'a> {
     pub header: OpenPart<'a>,
     pub visit: OpenPart<'a>,
+    pub ghost in_order: { InOrder header visit } by { InOrder-prop header visit },
 }
 
 impl<'a> OpenRecord<'a> {
+    ghost use Rattle.records.specs.Reading.{record_of, ReadsFrom, part_upload, orders_left, orders_upload};
+
     // The record whose items come next.
     fn ahead(from: Cursor<'a>) -> OpenRecord<'a>
         requires { Follows State.Record (left from) }

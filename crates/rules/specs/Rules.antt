@@ -1,8 +1,8 @@
--- When a rule is broken at a field. Rules 11 and 12 are about each writing of a field, and stand in the crate `verdicts`. Assumes nothing.
+-- When a rule is broken at a field. Rules 11 and 12 are about each writing of a field, and stand in the crate `verdicts`; rules 30 to 35 are about the register, and no field breaks one. Assumes nothing.
 --     broken r v f     whether the rule r is broken at the field f
 use Rattle.std.specs.Prelude.{Bool, false, ◌&&◌, ◌||◌, not}
 use Rattle.faults.specs.declared.rules.Rule.{Rule}
-use Rattle.faults.specs.declared.rules.Rule.TheVariants.{Misplaced, Repeated, Unknown, Missing, Barred, Form, Dates, Newborn, LateCard, VisitNumber, Signs, OrderMoment, OrderNumber, OrderKind, Signature, Code, Origin, Prevention, Refills}
+use Rattle.faults.specs.declared.rules.Rule.TheVariants.{Misplaced, Repeated, Unknown, Missing, Barred, Form, Dates, Newborn, LateCard, VisitNumber, Signs, OrderMoment, OrderNumber, OrderKind, Signature, Code, Origin, Prevention, Refills, Unmatched, Late, Dispensed, Prescription, Uncancellable, NoRoom}
 use Rattle.fields.specs.declared.field.Field.{Field}
 use Rattle.rules.specs.Views.{View, is_visit, withdraws, regards}
 use Rattle.rules.specs.Needs.{is_unknown, is_missing, is_barred, is_misformed}
@@ -30,3 +30,9 @@ broken Code v f = not (is_listed v f) && is_visit v
 broken Origin v f = not (source_is_told v f) && is_visit v
 broken Prevention v f = not (prevention_fits v f) && is_visit v
 broken Refills v f = not (refills_fit v f) && is_visit v
+broken Unmatched v f = false
+broken Late v f = false
+broken Dispensed v f = false
+broken Prescription v f = false
+broken Uncancellable v f = false
+broken NoRoom v f = false

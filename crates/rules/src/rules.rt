@@ -36,6 +36,13 @@ impl<'a, L: CodeLists> Seen<'a, L> {
             Rule::Origin => !self.source_is_told(field) && self.is_visit(),
             Rule::Prevention => !self.prevention_fits(field) && self.is_visit(),
             Rule::Refills => !self.refills_fit(field) && self.is_visit(),
+            // these speak of the register
+            Rule::Unmatched
+            | Rule::Late
+            | Rule::Dispensed
+            | Rule::Prescription
+            | Rule::Uncancellable
+            | Rule::NoRoom => false,
         }
     }
 }

@@ -1,5 +1,5 @@
 -- What the faults of a record are. Assumes nothing.
-use Rattle.std.proofs.Common.{◌≡◌, ℕ, zero, suc, ◌-◌, ◌<◌, ◌≤◌, ◌⊎◌, inl, inr, ⊎_elim, List, [], ◌∷◌, ◌++◌, Some, None, refl, sym, ap, subst, ◌∙◌, arith}
+use Rattle.std.proofs.Common.{◌≡◌, true, false, ℕ, ◌-◌, ◌<◌, ◌≤◌, ◌⊎◌, inl, inr, ⊎_elim, List, [], ◌∷◌, ◌++◌, Some, None, refl, sym, ap, subst, ◌∙◌, arith}
 use Rattle.std.specs.List.{flat_map, slice_get}
 use Rattle.records.specs.Records.{Part, Record}
 use Rattle.records.specs.Orderly.{Orderly}
@@ -9,11 +9,13 @@ use Rattle.faults.specs.Reports.{verdict_of}
 use Rattle.faults.specs.Rules.{number_of, rules_of, tiers}
 use Rattle.faults.specs.declared.report.Fault.{Fault}
 use Rattle.faults.specs.declared.rules.Rule.{Rule}
-use Rattle.faults.specs.declared.rules.Rule.TheVariants.{Misplaced}
+use Rattle.faults.specs.declared.rules.Rule.TheVariants.{Unmatched, Late, Dispensed, Prescription, Uncancellable, NoRoom}
 use Rattle.faults.specs.declared.rules.Tier.{Tier}
-use Rattle.faults.proofs.Along.{all_from_in, in_all, in_cases, in_right, flat_map_has, in_flat_map}
+use Rattle.faults.proofs.Along.{in_got, all_from_in, in_all, in_cases, in_right, flat_map_has, in_flat_map}
 use Rattle.faults.proofs.Order.{rises_flat_map}
+use Rattle.fields.specs.declared.field.Field.{Field}
 use Rattle.rules.specs.Views.{View}
+use Rattle.rules.specs.Rules.{broken}
 use Rattle.verdicts.specs.Sights.{Setting}
 use Rattle.verdicts.specs.Faults.{rule_faults, tier_faults, first_told, tiers_faults, faults_of}
 use Rattle.verdicts.specs.Broken.{BreaksAt, misplaced, repeated, absent, written, Breaks}
@@ -24,11 +26,6 @@ use Rattle.verdicts.proofs.Order.{rises_near, rules_rise, rule_faults_rise}
 -- lists
 
 module _ {A : Type 0} where
-  in_got : (xs : List A) (k : ℕ) (x : A) → slice_get xs k ≡ Some x → In x xs
-  in_got [] k x e = absurd (grind arith)
-  in_got (y ∷ xs) zero x e = inl (grind arith)
-  in_got (y ∷ xs) (suc k) x e = inr (in_got xs k x e)
-
   rises_alike : (R : A → A → Type 0) (xs : List A) → ((x y : A) → In x xs → In y xs → R x y) → RisesBy R xs
   rises_alike R [] h = tt
   rises_alike R (x ∷ xs) h = (all_from_in (R x) xs (λ y i. h x y (inl refl) (inr i)), rises_alike R xs (λ y z i j. h y z (inr i) (inr j)))
@@ -87,15 +84,33 @@ verdict_lowest (x ∷ xs) r e h y m =
     (λ i. omega (arith, ap number_of q, in_all (λ z. number_of x.rule ≤ number_of z.rule) xs h.0 y i))
     m
 
--- all rules, in their order
+-- each rule that can be broken at a field, where the tiers have it
 
-place_in_tiers : (r : Rule) → slice_get (flat_map rules_of tiers) (number_of r - 11) ≡ Some r
+abbrev InPlace : Rule → Type 0
+InPlace r = slice_get (flat_map rules_of tiers) (number_of r - 11) ≡ Some r
+
+never : {A : Type 0} → false ≡ true → A
+never h = absurd cc
+
+tried : (r : Rule) (v : View) (f : Field) → broken r v f ≡ true → InPlace r
 unfolding tiers
-place_in_tiers Misplaced = refl
-place_in_tiers _ = refl
+tried Unmatched v f h = never h
+tried Late v f h = never h
+tried Dispensed v f h = never h
+tried Prescription v f h = never h
+tried Uncancellable v f h = never h
+tried NoRoom v f h = never h
+tried _ v f h = refl
 
-every_rule : (r : Rule) → In r (flat_map rules_of tiers)
-every_rule r = in_got (flat_map rules_of tiers) (number_of r - 11) r (place_in_tiers r)
+in_place : {v : View} {n k : ℕ} {p : Part} (y : Fault) → BreaksAt v n k p y → InPlace y.rule
+unfolding tiers
+in_place y (misplaced front w back e h c d) = refl
+in_place y (repeated front w back e h c d) = refl
+in_place {v = v} y (absent r f b e h) = tried r v f h
+in_place {v = v} y (written r f front w back e h i b d m) = tried r v f m
+
+broken_rule : {v : View} {n k : ℕ} {p : Part} (y : Fault) → BreaksAt v n k p y → In y.rule (flat_map rules_of tiers)
+broken_rule y b = in_got (flat_map rules_of tiers) (number_of y.rule - 11) y.rule (in_place y b)
 
 numbered : {v : View} {n k : ℕ} {p : Part} (y : Fault) → BreaksAt v n k p y → y.«record» ≡ n
 numbered y (misplaced front w back e h c d) = refl
@@ -215,7 +230,7 @@ fault_law s n x = record {
   every = every s n x;
   numbered = λ y m. of_record s n x y (only s n x y m).breaks;
   rises = λ upload w. tiers_rise s n x w.order tiers;
-  accepts = (λ e y b. none_broken s n x tiers e y b (every_rule y.rule), λ h. verdict_none (faults_of s n x) (λ y m. h y (only s n x y m).breaks));
+  accepts = (λ e y b. none_broken s n x tiers e y b (broken_rule y b.breaks), λ h. verdict_none (faults_of s n x) (λ y m. h y (only s n x y m).breaks));
   refuses = λ r e. let f = verdict_some (faults_of s n x) r e in (f.0, (only s n x f.0 f.1).breaks, f.2);
-  lowest = λ r e y b. lowest_in s n x tiers (rises_near number_of (flat_map rules_of tiers) refl) r e y b (every_rule y.rule);
+  lowest = λ r e y b. lowest_in s n x tiers (rises_near number_of (flat_map rules_of tiers) refl) r e y b (broken_rule y b.breaks);
 }

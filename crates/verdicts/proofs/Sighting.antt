@@ -11,10 +11,10 @@ use Rattle.fields.specs.declared.field.Field.{Field}
 use Rattle.fields.specs.declared.field.Field.TheVariants.{D03}
 use Rattle.values.specs.Numbers.{order_number}
 use Rattle.cells.specs.Cells.{stands_in}
-use Rattle.cells.specs.Filled.{value_in}
+use Rattle.cells.specs.Filled.{value_in, fields_in}
 use Rattle.cells.proofs.Standing.{stands_by, same_segment}
 use Rattle.rules.specs.Views.{View}
-use Rattle.verdicts.specs.Sights.{fields_in, has_number}
+use Rattle.verdicts.specs.Sights.{has_number}
 
 -- two views that show the same are the same
 pub same_view : (v w : View) → v.today ≡ w.today → v.listed ≡ w.listed → ((f : Field) → v.value f ≡ w.value f) → ((n : ℕ) → v.stood n ≡ w.stood n) → v.ordered ≡ w.ordered → v ≡ w
@@ -22,17 +22,6 @@ same_view v w a b c d e = λ i. record { today = a i; listed = b i; value = λ f
 
 by_home : (f : Field) (g h : Segment) (a b : List ℕ) → segment_of f ≡ h → (if stands_in f g then a else b) ≡ (if same_segment h g then a else b)
 by_home f g h a b e = ap (λ t. if t then a else b) (stands_by f h g e)
-
--- the header and the visit are read
-opened_in : (x : Record) (f : Field) (h : Segment) → segment_of f ≡ h
-    → (if stands_in f Visit then value_in Visit f x.visit.fields else (if stands_in f Header then value_in Header f x.header.fields else [])) ≡ value_in h f (fields_in x [] h)
-opened_in x f Header e = by_home f Visit Header _ _ e ∙ by_home f Header Header _ _ e
-opened_in x f Visit e = by_home f Visit Visit _ _ e
-opened_in x f Order e = by_home f Visit Order _ _ e ∙ by_home f Header Order _ _ e
-
-pub opened_value : (x : Record) (f : Field)
-    → (if stands_in f Visit then value_in Visit f x.visit.fields else (if stands_in f Header then value_in Header f x.header.fields else [])) ≡ value_in (segment_of f) f (fields_in x [] (segment_of f))
-opened_value x f = opened_in x f (segment_of f) refl
 
 -- an order is read
 turned_in : (x : Record) (ws fs : List Written) (f : Field) (h : Segment) → segment_of f ≡ h

@@ -2,7 +2,7 @@
 use Rattle.std.proofs.Common.{◌≡◌, ℕ, ◌+◌, ◌<◌, ◌≤◌, Bool, not, ◌&&◌, arith, true, false, List, [], ◌∷◌, length, take, drop, get_or, Some, None, Option, refl, sym, ap, ◌∙◌, subst, ⊎_elim, inl, inr}
 use Rattle.std.proofs.lemmas.List.{drop_all, drop_more}
 use Rattle.std.proofs.lemmas.List.Sums.{fold-append}
-use Rattle.std.specs.Prelude.{is_some}
+use Rattle.std.specs.Prelude.{is_some, IsTrue}
 use Rattle.std.specs.List.{flat_map}
 use Rattle.records.specs.Records.{Written, Part, Record, order_parts}
 use Rattle.fields.specs.Fields.{id_of, fields_of}
@@ -141,6 +141,12 @@ tier_passed s n x ts i d now next l k v =
 pub no_tier_left : (s : Setting) (n : ℕ) (x : Record) (ts : List Tier) (i : ℕ) → length ts ≤ i → tiers_faults s n x (drop i ts) ≡ []
 no_tier_left s n x ts i l = ap (tiers_faults s n x) (drop_all i ts l)
 
-pub no_verdict : (o : Option Rule) {b : Bool} → is_some o ≡ not b → b ≡ true → o ≡ None
+no_verdict : (o : Option Rule) {b : Bool} → is_some o ≡ not b → b ≡ true → o ≡ None
 no_verdict None e h = refl
 no_verdict (Some r) {b} e h = absurd (let k : true ≡ not true = subst (λ t. true ≡ not t) h e in cc)
+
+-- so where a walk that tries every rule leaves none, nothing is broken
+pub unbroken : (s : Setting) (n : ℕ) (x : Record) (start next : Report) (o : Option Rule) (b : Bool) → is_some o ≡ not b → o ≡ next.verdict
+    → next ≡ told start (record_walk s n x None) → IsTrue b → faults_of s n x ≡ []
+unbroken s n x start next o b t v e h =
+    clean s n x (nothing_told (record_walk s n x None) start (sym (ap (λ r. r.verdict) e) ∙ sym v ∙ no_verdict o t h))

@@ -1,7 +1,6 @@
 -- What is seen of a record at each of its segments. Assumes nothing.
 --     Setting             what records are judged by: the receipt day and the code lists
 --     setting m day lists the setting on the day, with lists of the meaning m
---     fields_in x fs g    the fields that are seen of the segment g, where fs are those of the order that is judged
 --     number_of_order o   the number of an order, if it has one
 --     has_number n o      whether that is n
 --     AtOrders s x before v   v is what is seen behind the orders before
@@ -12,13 +11,11 @@ use Rattle.std.specs.Option.{option_map_or}
 use Rattle.calendar.specs.Calendar.{Date}
 use Rattle.calendar.specs.Days.{date_of}
 use Rattle.calendar.specs.declared.day.Day.{Day}
-use Rattle.grammar.specs.declared.states.Segment.{Segment}
-use Rattle.grammar.specs.declared.states.Segment.TheVariants.{Header, Visit, Order}
+use Rattle.grammar.specs.declared.states.Segment.TheVariants.{Order}
 use Rattle.lists.specs.Lists.{Meaning}
 use Rattle.records.specs.Records.{Written, Part, Record}
-use Rattle.fields.specs.Fields.{segment_of}
 use Rattle.fields.specs.declared.field.Field.TheVariants.{D03}
-use Rattle.cells.specs.Filled.{value_in}
+use Rattle.cells.specs.Filled.{value_of, value_in, first_in}
 use Rattle.values.specs.Numbers.{order_number}
 use Rattle.rules.specs.Views.{View}
 
@@ -28,11 +25,6 @@ pub record Setting : Type 0 where
 
 abbrev pub setting : {L : Type 0} → (L → Meaning) → Day → L → Setting
 setting m day lists = record { today = date_of day; listed = m lists }
-
-abbrev pub fields_in : Record → List Written → Segment → List Written
-fields_in x fs Header = x.header.fields
-fields_in x fs Visit = x.visit.fields
-fields_in x fs Order = fs
 
 abbrev pub number_of_order : Part → Option ℕ
 number_of_order o = order_number (value_in Order D03 o.fields)
@@ -44,7 +36,7 @@ abbrev pub view : Setting → Record → List Part → List Written → View
 view s x before fs = record {
   today = s.today;
   listed = s.listed;
-  value = λ f. value_in (segment_of f) f (fields_in x fs (segment_of f));
+  value = λ f. value_of (first_in x fs f);
   stood = λ n. list_any (has_number n) before;
   ordered = nat_lt 0 (length x.orders);
 }

@@ -5,7 +5,7 @@ ghost use Rattle.records.specs.Reading.{record_of};
 ghost use Rattle.rules.specs.Sight.{view_of};
 ghost use Rattle.verdicts.specs.Faults.{faults_of, tier_faults};
 ghost use Rattle.verdicts.specs.Laws.{FaultLaw};
-ghost use Rattle.verdicts.specs.Reading.{InOrder, Opened};
+ghost use Rattle.verdicts.specs.Reading.{Opened};
 ghost use Rattle.verdicts.specs.Sights.{setting};
 
 use crate::sights::open;
@@ -25,8 +25,7 @@ fn report_tier<L: CodeLists>(
     record: &OpenRecord,
     report: &mut Report,
 )
-    requires order { InOrder record.now }
-    requires opened { Opened (view_of L.meaning head.now) head.now.cells.upload.now (setting L.meaning head.now.today head.now.lists.now) record.now }
+    requires { Opened (view_of L.meaning head.now) head.now.cells.upload.now (setting L.meaning head.now.today head.now.lists.now) record.now }
     ensures { report.new ≡ told report.old (tier_faults (setting L.meaning head.now.today head.now.lists.now) number (record_of record.now) tier) }
 {
     for rule in tier.rules() {
@@ -36,8 +35,7 @@ fn report_tier<L: CodeLists>(
 
 // Whether the record breaks no rule at all. Most do not, and for those one walk is enough.
 fn is_clean<L: CodeLists>(head: &Seen<L>, number: usize, record: &OpenRecord) -> bool
-    requires order { InOrder record.now }
-    requires opened { Opened (view_of L.meaning head.now) head.now.cells.upload.now (setting L.meaning head.now.today head.now.lists.now) record.now }
+    requires { Opened (view_of L.meaning head.now) head.now.cells.upload.now (setting L.meaning head.now.today head.now.lists.now) record.now }
     ensures { IsTrue result → faults_of (setting L.meaning head.now.today head.now.lists.now) number (record_of record.now) ≡ [] }
 {
     let mut none: [Fault; 0] = [];
@@ -53,7 +51,6 @@ fn report_first<L: CodeLists>(
     record: &OpenRecord,
     report: &mut Report,
 )
-    requires order { InOrder record.now }
     requires opened { Opened (view_of L.meaning head.now) head.now.cells.upload.now (setting L.meaning head.now.today head.now.lists.now) record.now }
     requires begun { report.old.verdict ≡ None }
     ensures { report.new ≡ told report.old (faults_of (setting L.meaning head.now.today head.now.lists.now) number (record_of record.now)) }
@@ -67,7 +64,7 @@ fn report_first<L: CodeLists>(
 }
 
 // Tells the faults of the record with the number, from 1: those of the first tier that it breaks. Its verdict, the lowest rule
-// that it breaks, is then that of the report. Whoever passes over the records of an upload knows that they are in order.
+// that it breaks, is then that of the report.
 pub fn judge_record<L: CodeLists>(
     today: Day,
     lists: &L,
@@ -75,7 +72,6 @@ pub fn judge_record<L: CodeLists>(
     record: &OpenRecord,
     report: &mut Report,
 )
-    requires { InOrder record.now }
     ensures value { report.new ≡ told (begun report.old) (faults_of (setting L.meaning today lists.now) number (record_of record.now)) }
     ensures law { FaultLaw (setting L.meaning today lists.now) number (record_of record.now) }
 {

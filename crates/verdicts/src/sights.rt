@@ -4,7 +4,6 @@ ghost use Rattle.grammar.specs.declared.states.Segment.{Segment};
 ghost use Rattle.records.specs.Records.{Part, Record};
 ghost use Rattle.records.specs.Reading.{part_of, part_upload, record_of};
 ghost use Rattle.rules.specs.Sight.{view_of};
-ghost use Rattle.verdicts.specs.Reading.{InOrder};
 ghost use Rattle.verdicts.specs.Sights.{Setting, setting, view, AtOrders};
 
 use calendar::day::Day;
@@ -17,23 +16,19 @@ use records::passing::OpenRecord;
 use rules::seen::Seen;
 use values::numbers::order_number;
 
-// The header and the visit of a record are read. Whoever passes over the records of an upload knows that they are in order.
+// The header and the visit of a record are read.
 pub(crate) fn open<'a, L: CodeLists>(
     today: Day,
     lists: &'a L,
     record: &OpenRecord<'a>,
 ) -> Seen<'a, L>
-    requires { InOrder record.now }
     ensures sight { view_of L.meaning result ≡ view (setting L.meaning today lists.entry.now) (record_of record.now) [] [] }
     ensures upload { result.cells.upload.now ≡ part_upload record.now.header }
 {
-    let mut cells = Cells::new(record.header.cursor.upload);
-    cells.fill(&record.header);
-    cells.fill(&record.visit);
     Seen {
         today,
         lists,
-        cells,
+        cells: Cells::of(record),
         numbers: OrderNumbers::new(),
         ordered: record.has_orders(),
     }

@@ -3,7 +3,7 @@ ghost use Rattle.std.specs.Prelude.{◌≡◌, []};
 ghost use Rattle.faults.specs.Reports.{told};
 ghost use Rattle.records.specs.Reading.{record_of};
 ghost use Rattle.rules.specs.Sight.{view_of};
-ghost use Rattle.verdicts.specs.Reading.{InOrder, Opened};
+ghost use Rattle.verdicts.specs.Reading.{Opened};
 ghost use Rattle.verdicts.specs.Sights.{setting};
 ghost use Rattle.verdicts.specs.Walks.{record_walk};
 
@@ -24,8 +24,7 @@ pub(crate) fn report_record<L: CodeLists>(
     record: &OpenRecord,
     report: &mut Report,
 )
-    requires order { InOrder record.now }
-    requires opened { Opened (view_of L.meaning head.now) head.now.cells.upload.now (setting L.meaning head.now.today head.now.lists.now) record.now }
+    requires { Opened (view_of L.meaning head.now) head.now.cells.upload.now (setting L.meaning head.now.today head.now.lists.now) record.now }
     ensures { report.new ≡ told report.old (record_walk (setting L.meaning head.now.today head.now.lists.now) number (record_of record.now) only) }
 {
     let mut segment = 0;

@@ -10,18 +10,18 @@ use Rattle.verdicts.proofs.walk.report_record.Goals as goal
 pub overflow_add-segment-in-loop-order : goal.overflow_add-segment-in-loop-order
 overflow_add-segment-in-loop-order g c =
     let so = orders_so_far c.args.record.now c.orders-order-items.result c.into_iter-order-iterator.result c.loop-order.order-iterator c.loop-order.yielded c.orders-order-items.ensures.orders c.orders-order-items.ensures.upload c.into_iter-order-iterator.ensures.into_iter_gives c.loop-order.yielded_by in
-    let k = order_number (record_of c.args.record.now) (map part_of c.loop-order.yielded) (part_of c.in-Some.order) _ (2 ^ 64) c.requires.order.stands.order (omega arith) (omega (arith, c.requires.order.stands.within, c.requires.order.fits)) (so.all ∙ ap (λ ps. map part_of c.loop-order.yielded ++ ps) c.in-Some.ensures.steps.gives) in
+    let k = order_number (record_of c.args.record.now) (map part_of c.loop-order.yielded) (part_of c.in-Some.order) _ (2 ^ 64) c.args.record.now.in_order.stands.order (omega arith) (omega (arith, c.args.record.now.in_order.stands.within, c.args.record.now.in_order.fits)) (so.all ∙ ap (λ ps. map part_of c.loop-order.yielded ++ ps) c.in-Some.ensures.steps.gives) in
     omega (arith, k, c.loop-order.invariant.counted)
 
 pub turn_to-requires-clause-upload : goal.turn_to-requires-clause-upload
 turn_to-requires-clause-upload g c =
     let so = orders_so_far c.args.record.now c.orders-order-items.result c.into_iter-order-iterator.result c.loop-order.order-iterator c.loop-order.yielded c.orders-order-items.ensures.orders c.orders-order-items.ensures.upload c.into_iter-order-iterator.ensures.into_iter_gives c.loop-order.yielded_by in
-    c.in-Some.ensures.steps.reads ∙ so.upload ∙ c.requires.order.reads.visit ∙ sym c.loop-order.invariant.reads
+    c.in-Some.ensures.steps.reads ∙ so.upload ∙ c.args.record.now.in_order.reads ∙ sym c.loop-order.invariant.reads
 
 pub turn_to-requires-clause-order : goal.turn_to-requires-clause-order
 turn_to-requires-clause-order g c =
     let so = orders_so_far c.args.record.now c.orders-order-items.result c.into_iter-order-iterator.result c.loop-order.order-iterator c.loop-order.yielded c.orders-order-items.ensures.orders c.orders-order-items.ensures.upload c.into_iter-order-iterator.ensures.into_iter_gives c.loop-order.yielded_by in
-    order_segment (part_upload c.args.record.now.header) (record_of c.args.record.now) (map part_of c.loop-order.yielded) (part_of c.in-Some.order) _ c.requires.order.stands (so.all ∙ ap (λ ps. map part_of c.loop-order.yielded ++ ps) c.in-Some.ensures.steps.gives)
+    order_segment (part_upload c.args.record.now.header) (record_of c.args.record.now) (map part_of c.loop-order.yielded) (part_of c.in-Some.order) _ c.args.record.now.in_order.stands (so.all ∙ ap (λ ps. map part_of c.loop-order.yielded ++ ps) c.in-Some.ensures.steps.gives)
 
 pub loop-order-preserved : goal.loop-order-preserved
 loop-order-preserved g c =
