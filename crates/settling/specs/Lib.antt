@@ -1,0 +1,4 @@
+pub mod Verdicts
+pub mod Against
+pub mod Settled
+pub mod Standing
