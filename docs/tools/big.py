@@ -1,7 +1,8 @@
 #!/usr/bin/env python3
 """Writes large uploads for measuring: of 1 MiB, and of half of it, each to the byte (blanks fill it up at the end).
 
-    big.py FOLDER        writes FOLDER/NAME, an upload with no line before it, and prints what the model says of each
+    big.py FOLDER        writes FOLDER/NAME, an upload with no line before it, and prints what the model says of each,
+                         without a register
 
     records        small lawful visits, as many as there is room for: no fault
     every_field    lawful visits with every field that may be written and an order: no fault
@@ -123,7 +124,7 @@ def main():
             whole = make(size)
             assert len(whole) == size
             (folder / name).write_bytes(whole)
-            said = model.answer(b"%s %s\n%s" % (samples.SENDER, samples.DAY, whole), 2 * MIB).split("\n")[0]
+            said = model.answer(b"%s %s\n%s" % (samples.SENDER, samples.DAY, whole), 2 * MIB, None).split("\n")[0]
             print("%s: %d records, %d accepted, %d faults" % (name, int(said[:4], 16), int(said[4:8], 16), int(said[8:], 16)))
 
 

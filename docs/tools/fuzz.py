@@ -1,5 +1,5 @@
 #!/usr/bin/env python3
-"""Random inputs of `judge`: lawful records that are damaged a little, and what the model says of them.
+"""Random inputs of `judge`: lawful records that are damaged a little, or that use few keys again and again, and what the model says of them.
 
     fuzz.py write COUNT SEED FOLDER        writes inputs NAME and expected outputs NAME.stdout
     fuzz.py compare COUNT SEED PROGRAM     runs a program on each, and tells of each difference a smallest input that shows it
@@ -16,6 +16,7 @@ import subprocess
 import sys
 
 import model
+import queues
 import samples
 
 DAYS = [b"1130229"] * 12 + [b"1130215", b"1130214", b"1130301", b"1130228", b"9991231", b"0010101", b"1120229"]
@@ -153,6 +154,20 @@ def upload_of(dice):
     return records
 
 
+def spoil(dice, record):
+    """Damages a record in the one or the other way."""
+    (nudge if dice.random() < 0.6 and dict(record.visit).get("M07") in model.CATEGORIES else change)(dice, record)
+
+
+def night_of(dice):
+    """Records of one night from one sender, and their day."""
+    night = queues.Night(dice, spoil, hurt, [samples.SENDER.decode()])
+    for _ in range(dice.randint(1, 12)):
+        night.add("receive", night.senders[0], night.receipt(), 4096, 0, night.records(night.senders[0]))
+    records = [record for command in night.commands for record in command[-1]]
+    return records, night.receipt().encode()
+
+
 def text_of(records, day, blanks=(b"", b"")):
     text, _ = samples.write([(r,) for r in records], *blanks)
     return text[:11] + day + text[18:]
@@ -176,7 +191,7 @@ def hurt(dice, text):
 def case(seed):
     """An input: its records and its day, or none and the text alone."""
     dice = random.Random(seed)
-    records, day = upload_of(dice), dice.choice(DAYS)
+    records, day = night_of(dice) if dice.random() < 0.4 else (upload_of(dice), dice.choice(DAYS))
     blanks = dice.choice([(b"", b""), (b"", b""), (b"\n", b""), (b"\r\n", b"\t "), (b" ", b"\n")])
     text = text_of(records, day, blanks)
     if dice.random() < 0.06:

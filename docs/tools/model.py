@@ -6,7 +6,7 @@ can be compared: it shares no table and no thought with it. It judges one record
 
     model.py < INPUT         prints what `judge` prints of the input
 
-The rules 11 to 29 are judged. Accepted means here: no fault of these.
+All rules are judged, 11 to 29 by the record alone and 30 to 35 by the register.
 """
 
 import sys
@@ -15,7 +15,9 @@ MOST_INPUT = 65_536
 MOST_BYTES = 1_048_576
 MOST_RECORDS = 4_096
 MOST_ORDERS = 999
+MOST_ENTRIES = 65_536
 ROWS = 4_096
+SLOTS = 256
 
 # ---------------------------------------------------------------------------------------------------------------------- the tables
 
@@ -201,12 +203,7 @@ def is_day(value):
     if len(value) != 7 or not all_of(value, DIGITS):
         return False
     year, month, day = int(value[:3]), int(value[3:5]), int(value[5:])
-    if year < 1 or not 1 <= month <= 12:
-        return False
-    gregorian = year + 1911
-    leap = gregorian % 4 == 0 and (gregorian % 100 != 0 or gregorian % 400 == 0)
-    lengths = [31, 29 if leap else 28, 31, 30, 31, 30, 31, 31, 30, 31, 30, 31]
-    return 1 <= day <= lengths[month - 1]
+    return year >= 1 and 1 <= month <= 12 and 1 <= day <= month_length(year, month)
 
 
 def is_moment(value):
@@ -246,9 +243,43 @@ def count_characters(value):
     return count
 
 
-def in_list(number, code):
-    """The lists by shape."""
-    return code in ABNORMAL if number == 7 else 1 <= len(code) <= 12 and all_of(code, SIGNS)
+def is_placeholder(identifier):
+    """Identifiers that stand for no particular record."""
+    return identifier in (b"9" * 20, b"F" * 20) or len(identifier) == 20 and identifier.endswith(b"0" * 16)
+
+
+def month_length(year, month):
+    """Years are those of the Republic: 1911 less than the Gregorian ones."""
+    gregorian = year + 1911
+    leap = gregorian % 4 == 0 and (gregorian % 100 != 0 or gregorian % 400 == 0)
+    return [31, 29 if leap else 28, 31, 30, 31, 30, 31, 31, 30, 31, 30, 31][month - 1]
+
+
+def due_day(visit):
+    """The last day of the month after that of a visit, given by its day or its moment. After December 999 there is no month."""
+    year, month = int(visit[:3]), int(visit[3:5])
+    if (year, month) == (999, 12):
+        return b"9991231"
+    year, month = (year + 1, 1) if month == 12 else (year, month + 1)
+    return b"%03d%02d%02d" % (year, month, month_length(year, month))
+
+
+# --------------------------------------------------------------------------------------------------------------------- code lists
+#
+# Lists are a function of list number, code and day.
+
+
+def by_shape(number, code, day):
+    return code in ABNORMAL if number == 7 else 1 <= number <= 6 and 1 <= len(code) <= 12 and all_of(code, SIGNS)
+
+
+def by_rows(rows):
+    """Lists of rows (list number, code, first day, last day). Refused with the number of the first row that is bad."""
+    for k, (number, code, first, last) in enumerate(rows):
+        good = 1 <= number <= 7 and 1 <= len(code) <= 12 and is_day(first) and is_day(last) and first <= last
+        if not good or k > 0 and not (rows[k - 1][:2] < (number, code)):
+            raise Refused(10, 0, k)
+    return lambda number, code, day: any((number, code) == row[:2] and row[2] <= day <= row[3] for row in rows)
 
 
 # ------------------------------------------------------------------------------------------------------------- reading an upload
@@ -257,6 +288,9 @@ def in_list(number, code):
 class Refused(Exception):
     def __init__(self, number, cause, place):
         self.number, self.cause, self.place = number, cause, place
+
+    def __str__(self):
+        return "%02X%02X%08X" % (self.number, self.cause, self.place)
 
 
 class Field:
@@ -414,9 +448,9 @@ class Reader:
         return records, places
 
 
-def take(sender, day, upload):
+def take(sender, day, upload, verdict_rows=MOST_RECORDS):
     """The records of an upload that does not go back."""
-    if len(sender) != 10 or not all_of(sender, SIGNS) or not is_day(day):
+    if len(sender) != 10 or not all_of(sender, SIGNS) or not is_day(day) or verdict_rows < MOST_RECORDS:
         raise Refused(9, 0, 0)
     if not 1 <= len(upload) <= MOST_BYTES:
         raise Refused(1, 0, 0)
@@ -583,13 +617,14 @@ def rule_25(day, action, category, visit, orders):
             yield at(25, order, "D11")
 
 
-def rule_26(day, action, category, visit, orders):
+def rule_26(lists, action, visit, orders):
+    day = visit.value("M11")[:7]
     for segment in [visit] + orders:
         for name, number in LISTS.items():
             code = segment.value(name)
-            if code and not in_list(number, code) and not (name == "M50" and code in BEDS):
+            if code and not lists(number, code, day) and not (name == "M50" and code in BEDS):
                 yield at(26, segment, name)
-    if action == "B" and visit.value("M13") and not in_list(7, visit.value("M13")):
+    if action == "B" and visit.value("M13") and not lists(7, visit.value("M13"), day):
         yield at(26, visit, "M13")
 
 
@@ -613,47 +648,149 @@ def rule_29(day, action, category, visit, orders):
         yield at(29, visit, "M33")
 
 
-VISIT_RULES = [rule_17, rule_18, rule_19, rule_20, rule_22, rule_23, rule_24, rule_25, rule_26, rule_27, rule_28, rule_29]
+VISIT_RULES = [rule_17, rule_18, rule_19, rule_20, rule_22, rule_23, rule_24, rule_25, rule_27, rule_28, rule_29]
 
 
-def third_tier(record, day):
+def third_tier(record, day, lists):
     action, visit = action_of(record), record.visit
     if action in ("C", "D"):
         yield from rule_21(visit, ["M15"])
         return
     yield from rule_21(visit, ["M15", "M16", "M17", "M52"])
+    yield from rule_26(lists, action, visit, record.orders)
     for rule in VISIT_RULES:
         yield from rule(day, action, visit.value("M07").decode(), visit, record.orders)
 
 
-def faults_of(record, day):
-    """The faults of a record, as they are told: those of the first tier that has any."""
-    for tier in (first_tier, second_tier, lambda r: third_tier(r, day)):
+def faults_of(record, day, lists=by_shape):
+    """The faults of a record by itself, as they are told: those of the first tier that has any."""
+    for tier in (first_tier, second_tier, lambda r: third_tier(r, day, lists)):
         faults = sorted(tier(record))
         if faults:
             return faults
     return []
 
 
+# ------------------------------------------------------------------------------------------------------------------- the register
+#
+# A register is a table of keys and entries; a key is (sender, identifier). What a record would be as an entry is made of it in any case.
+
+
+DISPENSINGS = (b"AE", b"AF")
+
+
+class Entry:
+    """What is kept of a visit record."""
+
+    def __init__(self, visit):
+        self.patient, self.birth, self.category, self.moment = (visit.value(name) for name in ("M03", "M04", "M07", "M11"))
+        self.origin = None
+        if self.category in DISPENSINGS and not is_placeholder(visit.value("M16")):
+            self.origin = visit.value("M17"), visit.value("M16")
+        self.times = int(visit.value("M26") or b"0")
+        self.refills = {int(chr(b)) for b in visit.value("M33")} - {0}
+        self.cancelled = False
+
+    def source(self, key):
+        """The key of which this entry, which stands under `key`, takes its refills, or none."""
+        if self.origin:
+            return self.origin
+        return None if self.category in DISPENSINGS else key
+
+
+class Register:
+    def __init__(self, most):
+        self.most = min(most, MOST_ENTRIES)
+        self.entries = {}
+
+    def is_dispensed(self, key):
+        """Does an entry with this origin stand under another key?"""
+        return any(entry.origin == key for other, entry in self.entries.items() if other != key)
+
+    def is_taken(self, refill, source, key):
+        """Does an entry under another key than `key` take this refill of `source`?"""
+        return any(refill in entry.refills and entry.source(other) == source for other, entry in self.entries.items() if other != key)
+
+
+def fourth_tier(record, sender, day, register):
+    """The rules that a record breaks which has no other fault. The action is one of four, and the fields that count have their forms."""
+    action, visit = action_of(record), record.visit
+    key = sender, visit.value("M15")
+    stands = register.entries.get(key)
+    if action in ("C", "D"):
+        if stands is None or (stands.patient, stands.birth) != (visit.value("M03"), visit.value("M04")):
+            yield 30
+    elif day > due_day(visit.value("M11")):
+        yield 31
+    if stands and day > due_day(stands.moment):
+        yield 31
+    if stands and register.is_dispensed(key):
+        yield 32
+    if action == "C" and stands and (stands.category in DISPENSINGS or stands.times == 0 or stands.cancelled):
+        yield 34
+    if action in ("A", "B") and not is_placeholder(key[1]):
+        entry = Entry(visit)
+        if entry.origin == key:
+            yield 33
+        origin = register.entries.get(entry.origin)
+        if origin and (origin.cancelled or any(origin.times < refill for refill in entry.refills)):
+            yield 33
+        source = entry.source(key)
+        if source and any(register.is_taken(refill, source, key) for refill in entry.refills):
+            yield 33
+        if not stands and len(register.entries) >= register.most:
+            yield 35
+
+
+def enter(record, sender, register):
+    """What an accepted record leaves."""
+    action, visit = action_of(record), record.visit
+    key = sender, visit.value("M15")
+    if action == "C":
+        register.entries[key].cancelled = True
+    elif action == "D":
+        del register.entries[key]
+    elif not is_placeholder(key[1]):
+        register.entries[key] = Entry(visit)
+
+
+def settle(record, sender, day, lists, register):
+    """The faults of a record, and what it leaves."""
+    faults = faults_of(record, day, lists)
+    if not faults and register is not None:
+        broken = sorted(fourth_tier(record, sender, day, register))
+        if broken:
+            return [at(broken[0], record.visit, "M15")]
+        enter(record, sender, register)
+    return faults
+
+
 # --------------------------------------------------------------------------------------------------------------------- what is printed
 
 
-def answer(data, most=MOST_INPUT):
-    """The lines that `judge` prints of its whole input, without the last line feed. Another program may read more of it."""
-    data = data[:most]
+def receive(sender, day, upload, register, lists=by_shape, verdict_rows=MOST_RECORDS, report_rows=ROWS):
+    """The lines for an upload, and the verdicts of its records or none if it goes back. Without a register only the first three tiers are judged."""
     try:
-        if len(data) < 19 or data[10:11] != b" " or data[18:19] != b"\n":
-            raise Refused(9, 0, 0)
-        records = take(data[:10], data[11:18], data[19:])
+        records = take(sender, day, upload, verdict_rows)
     except Refused as refused:
-        return "%02X%02X%08X" % (refused.number, refused.cause, refused.place)
-    day = data[11:18]
-    told = [(number, fault) for number, record in enumerate(records, 1) for fault in faults_of(record, day)]
-    accepted = len(records) - len({number for number, _ in told})
-    lines = ["%04X%04X%08X" % (len(records), accepted, len(told))]
-    for number, (rule, place, name, segment) in told[:ROWS]:
+        return [str(refused)], None
+    faults = [settle(record, sender, day, lists, register) for record in records]
+    verdicts = [found[0][0] if found else 0 for found in faults]
+    told = [(number, fault) for number, found in enumerate(faults, 1) for fault in found]
+    lines = ["%04X%04X%08X" % (len(records), verdicts.count(0), len(told))]
+    for number, (rule, place, name, segment) in told[:report_rows]:
         lines.append("%04X%04X%s%02X%08X" % (number, segment, name.encode().hex().upper(), rule, place))
-    return "\n".join(lines)
+    return lines, verdicts
+
+
+def answer(data, most=MOST_INPUT, slots=SLOTS):
+    """The lines that `judge` prints of its whole input, without the last line feed. Another program may read more of it, and have a register of
+    another size or none."""
+    data = data[:most]
+    if len(data) < 19 or data[10:11] != b" " or data[18:19] != b"\n":
+        return str(Refused(9, 0, 0))
+    register = None if slots is None else Register(slots)
+    return "\n".join(receive(data[:10], data[11:18], data[19:], register)[0])
 
 
 if __name__ == "__main__":

@@ -67,12 +67,10 @@ class Record:
         for name, value in changes.items():
             segment = self.segment(name[0])
             at = next((k for k, (n, _) in enumerate(segment) if n == name), None)
-            if at is None:
+            if at is not None:
+                segment[at:at + 1] = [] if value is None else [(name, value)]
+            elif value is not None:
                 segment.append((name, value))
-            elif value is None:
-                del segment[at]
-            else:
-                segment[at] = (name, value)
         return self
 
     def add(self, header=(), visit=(), orders=()):
@@ -167,7 +165,7 @@ class Written:
         return int(rule), place, name, number
 
 
-def write(cases, blank=b"\n", within=b""):
+def write(cases, blank=b"\n", within=b"", day=DAY):
     """The input and the output of a sample: each case is a record and the faults that it has. White space goes between records, and within."""
     upload = model.DECLARATION + blank + b"<RECS>" + blank
     faults, accepted = [], 0
@@ -181,7 +179,7 @@ def write(cases, blank=b"\n", within=b""):
     lines = ["%04X%04X%08X" % (len(cases), accepted, len(faults))]
     for number, (rule, place, name, segment) in faults[:model.ROWS]:
         lines.append("%04X%04X%s%02X%08X" % (number, segment, name.encode().hex().upper(), rule, place))
-    return b"%s %s\n%s" % (SENDER, DAY, upload), "\n".join(lines) + "\n"
+    return b"%s %s\n%s" % (SENDER, day, upload), "\n".join(lines) + "\n"
 
 # ----------------------------------------------------------------------------------------------------- categories, full and needs
 
@@ -275,7 +273,8 @@ def forms():
     # Under C and D the forms of M04, M03, M05 and M15 alone are looked at, and the later rule 21 not, if one is wrong.
     cases.append((kept("D", M04="1120229", M15="350120000000000000011"), "1 M04 16", "1 M15 16"))
     cases.append((kept("C", M03="A1234567890"), "1 M03 16"))
-    cases.append((kept("C", M11="never", M08="x", M44="-"),))
+    # The record that stands has a patient of ten blanks.
+    cases.append((kept("C", M11="never", M08="x", M44="-"), "1 M15 30"))
     return cases
 
 # ------------------------------------------------------------------------------------------------------------------- the first tier
@@ -360,10 +359,10 @@ def first_tier():
         (Record([("M07", "DA"), ("H00", "1"), ("H01", "B")], small().visit, []), "0 M07 11 tag"),
         # A later tier is not judged if this one has a fault: here M03 is absent and M04 no day.
         (small(M03=None, M04="1130230", H00="2"), "0 H00 13"),
-        # Under C and D all but H00, H01, M03, M04, M05 and M15 is passed over.
-        (kept("C"),),
-        (kept("D"),),
-        (kept("D", M07="ZZ").add(header=[("M07", "x"), ("X00", "x"), ("D01", "x")], visit=[("H02", "x"), ("M07", "y"), ("D01", "y"), ("D01", "z")]),),
+        # Under C and D all but H00, H01, M03, M04, M05 and M15 is passed over. What stood was deleted just before, so rule 30 is reached.
+        (kept("C"), "1 M15 30"),
+        (kept("D"), "1 M15 30"),
+        (kept("D", M07="ZZ").add(header=[("M07", "x"), ("X00", "x"), ("D01", "x")], visit=[("H02", "x"), ("M07", "y"), ("D01", "y"), ("D01", "z")]), "1 M15 30"),
         (kept("C").add(header=[("M03", "A123456789")]), "0 M03 11 tag"),
         (kept("D").add(visit=[("H00", "1"), ("H01", "D")]), "1 H00 11 tag", "1 H01 11 tag"),
         (kept("D").add(visit=[("M15", "1"), ("M04", "1")]), "1 M15 12 tag 2", "1 M04 12 tag 2"),
@@ -431,7 +430,7 @@ def second_tier():
         (kept("D", M03=None), "1 M03 14 absent"),
         (kept("C", M04=None, M15=""), "1 M04 14 absent", "1 M15 14 absent"),
         (kept("D", M05=None), "1 M05 14 absent"),
-        (kept("C", M07="01", M16="x", M50="12345678901"),),
+        (kept("C", M07="01", M16="x", M50="12345678901"), "1 M15 34"),
         # A later tier is not judged: M15 is no identifier here.
         (small(M15="x", M51=None), "1 M51 14 absent"),
     ]
@@ -529,8 +528,8 @@ def rules_17_to_21():
         (small(M12="2", M49="1130214093000", M52="-", M15="-", M16="-", M17="-"), "1 M15 21", "1 M16 21", "1 M17 21", "1 M52 21"),
         (kept("D", M15="3501200000000000000"), "1 M15 21"),
         (kept("C", M15="3501200000000000000a"), "1 M15 21"),
-        (kept("C", M16="-", M17="-", M52="-"),),
-        (kept("D", M04="9991231"),),
+        (kept("C", M16="-", M17="-", M52="-"), "1 M15 34"),
+        (kept("D", M04="9991231"), "1 M15 30"),
     ]
 
 
@@ -644,6 +643,318 @@ def many():
     return [(small().add(visit=fields), *told), (small(H00="2"), "0 H00 13")]
 
 
+# -------------------------------------------------------------------------------------------------------------------- the register
+#
+# The records of a file are judged one after the other against a register that is empty before the first.
+
+
+def key(name):
+    """An identifier that begins so."""
+    return name.ljust(20, "X")
+
+
+def prescription(name, times="3", refills="", category="01", **changes):
+    return lawful(category, "A").set(**dict(dict(M15=key(name), M26=times, M33=refills), **changes))
+
+
+def dispensing(name, origin, refills="", category="AE", action="A", **changes):
+    """A dispensing of a prescription of this sender. Its own times are nine, so that rule 29 lets any refills pass."""
+    return lawful(category, action).set(**dict(dict(M15=key(name), M16=key(origin), M17="3501200000", M26="9", M33=refills), **changes))
+
+
+def cancel(name, **changes):
+    return kept("C", **dict(dict(M15=key(name)), **changes))
+
+
+def delete(name, **changes):
+    return kept("D", **dict(dict(M15=key(name)), **changes))
+
+
+def nothing_stands():
+    return [(kept("D"), "1 M15 30")]
+
+
+def withdrawals():
+    """Rules 30 and 34, and what cancellations and deletions leave."""
+    return [
+        # 30: nothing stands; then something, of another patient, another birth day, another key.
+        (cancel("A"), "1 M15 30"),
+        (delete("A"), "1 M15 30"),
+        (prescription("A"),),
+        (delete("A", M03="A123456788"), "1 M15 30"),
+        (delete("A", M03="A12345678"), "1 M15 30"),
+        (delete("A", M03="A123456789".lower()), "1 M15 30"),
+        (delete("A", M04="0800102"), "1 M15 30"),
+        (cancel("A", M03="B123456789"), "1 M15 30"),
+        (cancel("A", M04="0800102"), "1 M15 30"),
+        (delete("B"), "1 M15 30"),
+        (delete("A"),),
+        (delete("A"), "1 M15 30"),
+        (cancel("A"), "1 M15 30"),
+        # 30: a short patient, and a correction that changes patient and birth day; corrections themselves may.
+        (prescription("C", M03="A1"),),
+        (delete("C"), "1 M15 30"),
+        (prescription("C", M03="A12", M04="0800102"),),
+        (delete("C", M03="A1", M04="0800102"), "1 M15 30"),
+        (delete("C", M03="A12"), "1 M15 30"),
+        (delete("C", M03="A12", M04="0800102"),),
+        # A record with an earlier fault leaves nothing, and does nothing.
+        (prescription("D", M33="21"), "1 M33 29"),
+        (delete("D"), "1 M15 30"),
+        (prescription("D"),),
+        (delete("D", H00="2"), "0 H00 13"),
+        (delete("D"),),
+        # 34: without times.
+        (prescription("E", times=None),),
+        (cancel("E"), "1 M15 34"),
+        (prescription("E", times="0"),),
+        (cancel("E"), "1 M15 34"),
+        (prescription("E", times="1"),),
+        (cancel("E"),),
+        # 34: cancelled already. A correction takes the mark away; a cancelled record may be deleted.
+        (cancel("E"), "1 M15 34"),
+        (prescription("E", times="9"),),
+        (cancel("E"),),
+        (cancel("E", M04="0800102"), "1 M15 30"),
+        (delete("E"),),
+        (delete("E"), "1 M15 30"),
+        # 34: of a dispensing, with times, with an origin and without. Other categories may have an origin and be cancelled.
+        (dispensing("F", "NONE", "1"),),
+        (cancel("F"), "1 M15 34"),
+        (dispensing("G", "NONE", "2", category="AF"),),
+        (cancel("G"), "1 M15 34"),
+        (dispensing("H", "NONE", M16="9" * 20),),
+        (cancel("H"), "1 M15 34"),
+        (dispensing("I", "NONE", category="AG"),),
+        (cancel("I"),),
+        (dispensing("J", "NONE", category="AE", action="B"),),
+        (cancel("J"), "1 M15 34"),
+        (small(M15=key("K"), M26="1"),),
+        (cancel("K"),),
+        # 34: a dispensing that is corrected to something else.
+        (prescription("F"),),
+        (cancel("F"),),
+    ]
+
+
+def dispensings():
+    """Rules 32 and 33."""
+    return [
+        # 32: whatever would change what is dispensed, until nothing dispenses it.
+        (prescription("A", "3", "1"),),
+        (dispensing("A2", "A", "2"),),
+        (prescription("A", "3", "1"), "1 M15 32"),
+        (cancel("A"), "1 M15 32"),
+        (delete("A"), "1 M15 32"),
+        (delete("A", M03="B123456789"), "1 M15 30"),
+        (dispensing("A", "NONE", "1"), "1 M15 32"),
+        (dispensing("A3", "A", "3", category="AF", action="B"),),
+        (delete("A2"),),
+        (delete("A"), "1 M15 32"),
+        (delete("A3"),),
+        (prescription("A", "4"),),
+        (cancel("A"),),
+        # 32: also by a dispensing without refills, and of a dispensing.
+        (prescription("B"),),
+        (dispensing("B1", "B"),),
+        (delete("B"), "1 M15 32"),
+        (dispensing("B2", "B1"),),
+        (delete("B1"), "1 M15 32"),
+        (delete("B2"),),
+        (delete("B1"),),
+        (delete("B"),),
+        # 32 comes before 33 and 34: cancelled is what a dispensing cannot be made of, and what is dispensed cannot be cancelled.
+        (dispensing("C1", "C"),),
+        (dispensing("C2", "C1", "1"),),
+        (cancel("C1"), "1 M15 32"),
+        (dispensing("C1", "C1"), "1 M15 32"),
+        # 33: of itself, new and as a correction, with refills and without.
+        (dispensing("D", "D"), "1 M15 33"),
+        (dispensing("D", "D", "1", category="AF"), "1 M15 33"),
+        (dispensing("D", "E"),),
+        (dispensing("D", "D"), "1 M15 33"),
+        (dispensing("D", "D", M17="3501200001"),),  # of another sender's
+        (dispensing("D", "D", category="AG"),),
+        # 33: the origin is cancelled.
+        (prescription("F"),),
+        (cancel("F"),),
+        (dispensing("F1", "F", "1"), "1 M15 33"),
+        (dispensing("F1", "F"), "1 M15 33"),
+        (dispensing("F1", "F", category="AG"),),
+        (prescription("F"),),
+        (dispensing("F1", "F", "1"),),
+        # 33: the origin has fewer times.
+        (prescription("G", "2"),),
+        (dispensing("G1", "G", "3"), "1 M15 33"),
+        (dispensing("G1", "G", "13"), "1 M15 33"),
+        (dispensing("G1", "G", "2"),),
+        (dispensing("G2", "G", "1"),),
+        (prescription("H", None),),
+        (dispensing("H1", "H", "1"), "1 M15 33"),
+        # M33 = 0 is no refill, which nobody takes.
+        (dispensing("H1", "H", "0"),),
+        (dispensing("H2", "H", "0"),),
+        (prescription("I", "9"),),
+        (dispensing("I1", "I", "6789"),),
+        # 33: taken already; a correction may keep its own refills, and a deletion frees them.
+        (prescription("J", "4"),),
+        (dispensing("J1", "J", "12"),),
+        (dispensing("J2", "J", "2"), "1 M15 33"),
+        (dispensing("J2", "J", "13"), "1 M15 33"),
+        (dispensing("J2", "J", "3"),),
+        (dispensing("J1", "J", "12"),),
+        (dispensing("J1", "J", "23"), "1 M15 33"),
+        (dispensing("J1", "J", "2"),),
+        (dispensing("J3", "J", "1", category="AF"),),
+        (delete("J2"),),
+        (dispensing("J3", "J", "13", category="AF"),),
+        # 33: the prescription itself has taken refills, and takes them of nobody else.
+        (prescription("K", "3", "12"),),
+        (dispensing("K1", "K", "1"), "1 M15 33"),
+        (dispensing("K1", "K", "3"),),
+        (prescription("L", "3", "12"),),
+        # 33: what was dispensed before the prescription came. The dispensing that is there keeps it from taking that refill itself.
+        (dispensing("M1", "M", "2"),),
+        (prescription("M", "3", "2"), "1 M15 33"),
+        (prescription("M", "3", "123"), "1 M15 33"),
+        (prescription("M", "3", "13"),),
+        (dispensing("M2", "M", "1"), "1 M15 33"),
+        # 33: a prescription with fewer times than were dispensed before it came breaks nothing.
+        (dispensing("N1", "N", "9"),),
+        (prescription("N", "1", "1"),),
+        # 33: refills of another sender's prescription with the same identifier are others.
+        (prescription("P", "3", "1"),),
+        (dispensing("P1", "P", "1", M17="3501200001"),),
+        (dispensing("P2", "P", "1", M17="3501200001"), "1 M15 33"),
+        (dispensing("P2", "P", "1"), "1 M15 33"),
+        # Only AE and AF have an origin: AG takes of its own key, and keeps nothing from being deleted.
+        (prescription("Q", "3"),),
+        (dispensing("Q1", "Q", "1", category="AG"),),
+        (dispensing("Q2", "Q", "1"),),
+        (dispensing("Q3", "Q1", "1"), "1 M15 33"),
+        (delete("Q2"),),
+        (delete("Q"),),
+        # A dispensing that becomes something else frees what it took.
+        (prescription("R", "3"),),
+        (dispensing("R1", "R", "1"),),
+        (prescription("R1", "3", "1"),),
+        (dispensing("R2", "R", "1"),),
+    ]
+
+
+def placeholders():
+    """Identifiers that stand for no particular record, as key and as origin, and some that are nearly so."""
+    nines, effs, zeros = "9" * 20, "F" * 20, "ABCD" + "0" * 16
+    near = ["9" * 19 + "8", "F" * 19 + "E", "ABCDE" + "0" * 15, "8" + "9" * 19]
+    cases = []
+    for k, name in enumerate((nines, effs, zeros, "0" * 20)):
+        # Nothing is kept of such a record, not even its refills, and it may come again.
+        cases += [
+            (prescription("", M15=name),),
+            (prescription("", "3", "1", M15=name),),
+            (delete("", M15=name), "1 M15 30"),
+            (cancel("", M15=name), "1 M15 30"),
+            (dispensing("", "P%d" % k, "1", M15=name),),
+            (dispensing("X%d" % k, "P%d" % k, "1"),),
+            (dispensing("", "P%d" % k, "1", M15=name),),
+            (prescription("P%d" % k),),
+            (dispensing("", "P%d" % k, "9", M15=name),),
+            # As an origin it is none: the refills are taken of nothing, and it is not the own key.
+            (dispensing("Y%d" % k, "", "1", M16=name),),
+            (dispensing("Z%d" % k, "", "1", M16=name, category="AF"),),
+            (dispensing("", "", "1", M15=name, M16=name),),
+            # It takes nothing of its own key either: this one may take the first refill of it, and the next one not.
+            (dispensing("U%d" % k, "Y%d" % k, "1"),),
+            (dispensing("T%d" % k, "Y%d" % k, "1"), "1 M15 33"),
+            # Its visit must not be past due.
+            (small(M15=name, M11="1121231093000"), "1 M15 31"),
+        ]
+    for k, name in enumerate(near):
+        cases += [
+            (dispensing("V%d" % k, "", "1", M16=name),),
+            (dispensing("W%d" % k, "", "1", M16=name), "1 M15 33"),
+            (prescription("", M15=name),),
+            (delete("", M15=name), "1 M15 32"),
+            (delete("V%d" % k),),
+            (delete("", M15=name),),
+            (delete("", M15=name), "1 M15 30"),
+        ]
+    return cases
+
+
+def visit_of(name, moment, **changes):
+    return small(M15=key(name), M11=moment, **changes)
+
+
+def due_days():
+    """Rule 31 on 29 February 113: visits of January are due today."""
+    return [
+        (visit_of("A", "1130101000000"),),
+        (visit_of("B", "1130131235959"),),
+        (visit_of("C", "1121231235959"), "1 M15 31"),
+        (visit_of("C", "1120229000000"), "1 M11 16"),
+        (visit_of("C", "1120228000000"), "1 M15 31"),
+        (visit_of("C", "1090229000000"), "1 M15 31"),
+        (delete("A"),),
+    ]
+
+
+def past_due():
+    """Rule 31 on 1 March 113: visits of January were due on the day before."""
+    return [
+        (visit_of("A", "1130201000000"),),
+        (visit_of("B", "1130131235959"), "1 M15 31"),
+        (visit_of("B", "1130101000000"), "1 M15 31"),
+        (visit_of("B", "1120301000000"), "1 M15 31"),
+        (visit_of("B", "1130301093000"),),
+        (visit_of("C", "1130301093000"),),
+        # A correction has its own visit, beside that of what stands.
+        (visit_of("A", "1130131235959"), "1 M15 31"),
+        (visit_of("A", "1130229235959"),),
+        # It is told before the others, and not if an earlier tier has a fault. Records that withdraw have no visit of their own.
+        (dispensing("D", "D", "1", M11="1130131093000").set(D01="1130131093000"), "1 M15 31"),
+        (visit_of("D", "1130131093000", M33="1"), "1 M33 29"),
+        (delete("A", M11="1120101000000"),),
+    ]
+
+
+def new_year():
+    """Rule 31 on 31 January 113: visits of December are due today."""
+    return [
+        (visit_of("A", "1121201000000"),),
+        (visit_of("B", "1121231235959"),),
+        (visit_of("C", "1121130235959"), "1 M15 31"),
+        (visit_of("C", "1111231000000"), "1 M15 31"),
+    ]
+
+
+def last_days():
+    """Rule 31 on the last day there is."""
+    return [
+        (visit_of("A", "9991231235959"),),
+        (visit_of("B", "9991201000000"),),
+        (visit_of("C", "9991130235959"),),
+        (visit_of("D", "9991101000000"),),
+        (visit_of("E", "9991031235959"), "1 M15 31"),
+        (visit_of("F", "9981231000000"), "1 M15 31"),
+        (delete("A"),),
+    ]
+
+
+def full_register():
+    """Rule 35: 256 records stand, and no other has room until one is deleted. Corrections have room."""
+    name = lambda k: "S%03d" % k
+    fill = lambda k, **changes: small(M15=key(name(k)), M03="A", **changes)
+    return [
+        *[(fill(k),) for k in range(256)],
+        (fill(256), "1 M15 35"),
+        (fill(0),),
+        (small(M15="9" * 20, M03="A"),),
+        (delete(name(255), M03="A"),),
+        (fill(256),),
+    ]
+
+
 SAMPLES = {
     "categories": lambda: categories(False),
     "full": lambda: categories(True),
@@ -654,10 +965,26 @@ SAMPLES = {
     "third_tier": lambda: rules_17_to_21() + rules_22_to_25(),
     "codes_and_refills": rules_26_to_29,
     "many": many,
+    "nothing_stands": nothing_stands,
+    "withdrawals": withdrawals,
+    "dispensings": dispensings,
+    "placeholders": placeholders,
+    "due_days": due_days,
+    "past_due": past_due,
+    "new_year": new_year,
+    "last_days": last_days,
+    "full_register": full_register,
 }
 
-# White space of all four kinds in one sample.
-SPACED = {"second_tier": (b"\r\n", b"\r\n\t ")}
+# White space of all four kinds in one sample, and none in another. Other receipt days.
+WRITTEN = {
+    "second_tier": dict(blank=b"\r\n", within=b"\r\n\t "),
+    "nothing_stands": dict(blank=b""),
+    "past_due": dict(day=b"1130301"),
+    "new_year": dict(day=b"1130131"),
+    "last_days": dict(day=b"9991231"),
+    "full_register": dict(blank=b""),
+}
 
 
 def against(program):
@@ -676,7 +1003,7 @@ def main():
     bad = 0
     FOLDER.mkdir(parents=True, exist_ok=True)
     for name, cases in [*SAMPLES.items(), ("gate", lambda: first_tier() + rules_17_to_21() + rules_22_to_25())]:
-        text, output = write(cases(), *SPACED.get(name, []))
+        text, output = write(cases(), **WRITTEN.get(name, {}))
         said = model.answer(text) + "\n"
         if said != output:
             bad += 1

@@ -4,14 +4,21 @@
 use faults::report::Fault;
 use faults::rules::Rule;
 use grammar::states::FieldId;
-use judging::input::judge;
+use hash_register::store::HashRegister;
 use judging::lines::{Line, Row};
 use lists::shapes::ShapeLists;
+use receiving::input::judge;
 use std::io;
 use std::io::Read;
 
 // Of the input so much is read, the first line included.
 const MOST_INPUT: u64 = 65_536;
+
+// The register begins empty, and has room for so many entries.
+const SLOTS: usize = 256;
+
+// So many verdicts are taken: one for each record that an upload may have.
+const VERDICTS: usize = 4_096;
 
 // So many faults are printed at most.
 const ROWS: usize = 4_096;
@@ -30,10 +37,12 @@ const BLANK: Fault = Fault {
 };
 
 fn main(rt: HostRuntime) -> io::Result<()> {
+    let mut register = HashRegister::new(rt.alloc(), SLOTS)?;
+    let mut verdicts = vec![in rt.alloc(); None; VERDICTS]?;
     let mut rows = vec![in rt.alloc(); BLANK; ROWS]?;
     let mut input = Vec::new(rt.alloc());
     rt.stdin().take(MOST_INPUT).read_to_end(&mut input)?;
-    let answer = judge(&input, &ShapeLists, &mut rows);
+    let answer = judge(&input, &mut register, &ShapeLists, &mut verdicts, &mut rows);
     print!(rt; "{}", Line(answer))?;
     if let Ok(counts) = answer {
         for fault in rows.iter().take(counts.faults) {

@@ -1,0 +1,15 @@
+pub mod Own
+pub mod Keeping
+pub mod Verdicts
+pub mod Alike
+pub mod Bisimilar
+pub mod Exact
+pub mod Judged
+pub mod Reading
+pub mod Few
+pub mod Loops
+pub mod Filed
+pub mod Calls
+pub mod Rising
+pub mod Lines
+pub mod Proven
