@@ -1,0 +1,10 @@
+pub mod Malformed
+pub mod Numbers
+pub mod Words
+pub mod Lines
+pub mod Commands
+pub mod Rows
+pub mod Texts
+pub mod LookUpLines
+pub mod VerdictsLines
+pub mod Written

@@ -1,0 +1,2 @@
+pub mod Registers
+pub mod Lists
