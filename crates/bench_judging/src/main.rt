@@ -2,9 +2,7 @@
 #![tactic(auto)]
 
 use faults::report::Fault;
-use faults::rules::Rule;
-use grammar::states::FieldId;
-use judging::upload::judge_upload;
+use judging::upload::{BLANK, judge_upload};
 use lists::shapes::ShapeLists;
 use reader::faults::Refusal;
 use reader::structure::check_structure;
@@ -63,19 +61,7 @@ fn print_times(rt: &HostRuntime, call: Call, upload: Upload, rows: &mut [Fault])
 }
 
 fn measure(rt: &HostRuntime, is_timed: bool) -> io::Result<()> {
-    // what a row holds before a fault takes it
-    let blank = Fault {
-        record: 0,
-        segment: 0,
-        field: FieldId {
-            letter: b'A',
-            tens: b'0',
-            ones: b'0',
-        },
-        rule: Rule::Misplaced,
-        place: 0,
-    };
-    let mut rows = vec![in rt.alloc(); blank; LEAST_ROWS]?;
+    let mut rows = vec![in rt.alloc(); BLANK; LEAST_ROWS]?;
     let mut bytes = Vec::new(rt.alloc());
     rt.stdin()
         .take(MOST_BYTES as u64 + 1)

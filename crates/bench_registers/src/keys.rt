@@ -1,24 +1,10 @@
 // Keys for a measurement: those that stand in the register, in no order, and those to look up.
 ghost use Rattle.std.specs.Prelude.{◌≡◌, ◌<◌, ◌/◌, ◌%◌, IfOk, vec_len, length};
-ghost use Rattle.std.specs.Str.Parse.{digits_value};
-ghost use Rattle.trials.specs.Keys.{sender_of};
-ghost use Rattle.bench_registers.specs.Scatter.{scattered};
 
 use register::key::Key;
 use std::alloc::{AllocError, Global};
 use trials::dice::Dice;
-use trials::draws::key_of;
-
-// Odd, so that no two numbers below 2 to the 64 are scattered onto one.
-const SCATTER: u64 = 11_400_714_819_323_198_485;
-
-// The key with this number, which lies anywhere among the others.
-pub(crate) fn key_at(number: u64) -> Key
-    ensures sender { result.sender ≡ sender_of (scattered number % 3) }
-    ensures identifier { digits_value 10 result.identifier ≡ scattered number / 3 }
-{
-    key_of(number.wrapping_mul(SCATTER))
-}
+use trials::draws::key_at;
 
 // The keys of these numbers.
 pub(crate) fn keys_of(alloc: Global, numbers: &[u64]) -> Result<Vec<Key>, AllocError>

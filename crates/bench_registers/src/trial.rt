@@ -1,6 +1,6 @@
 // Registers of one size, filled to several parts and churned.
 
-use crate::keys::{drawn, key_at, keys_of, numbers_from};
+use crate::keys::{drawn, keys_of, numbers_from};
 use crate::lookups::time_look_ups;
 use crate::plan::Plan;
 use crate::report::{Measured, Row, print_found, print_ratios};
@@ -11,7 +11,7 @@ use std::alloc::{AllocError, Global};
 use std::io;
 use std::rt::Clock;
 use trials::dice::Dice;
-use trials::draws::entry_with;
+use trials::draws::{entry_with, key_at};
 
 // A register and the numbers of the keys that stand there.
 #[derive(Drop)]

@@ -1,11 +1,9 @@
 // Judges the upload on standard input, and prints what becomes of it: see docs/FORMAT.md.
 #![tactic(auto)]
 
-use faults::report::Fault;
-use faults::rules::Rule;
-use grammar::states::FieldId;
 use hash_register::store::HashRegister;
 use judging::lines::{Line, Row};
+use judging::upload::BLANK;
 use lists::shapes::ShapeLists;
 use receiving::input::judge;
 use std::io;
@@ -22,19 +20,6 @@ const VERDICTS: usize = 4_096;
 
 // So many faults are printed at most.
 const ROWS: usize = 4_096;
-
-// What a row holds before a fault takes it.
-const BLANK: Fault = Fault {
-    record: 0,
-    segment: 0,
-    field: FieldId {
-        letter: b'A',
-        tens: b'0',
-        ones: b'0',
-    },
-    rule: Rule::Misplaced,
-    place: 0,
-};
 
 fn main(rt: HostRuntime) -> io::Result<()> {
     let mut register = HashRegister::new(rt.alloc(), SLOTS)?;

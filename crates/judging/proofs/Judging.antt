@@ -42,8 +42,11 @@ same_tells s u before a b c d l h k =
 lawful_in : (c : Told) (t : Taken) → Answer c (Ok t) → Lawful t.upload
 lawful_in c _ (taken s w f n) = w.lawful
 
-ok_is : {A B : Type 0} (a b : A) → ◌≡◌ {A = Result A B} (Ok a) (Ok b) → a ≡ b
+pub ok_is : {A B : Type 0} (a b : A) → ◌≡◌ {A = Result A B} (Ok a) (Ok b) → a ≡ b
 ok_is a b e = cc
+
+pub err_is : {A B : Type 0} (a b : B) → ◌≡◌ {A = Result A B} (Err a) (Err b) → a ≡ b
+err_is a b e = cc
 
 module _ (m : Meaning) (bs : List ℕ) (before : List Fault) where
   one : (r q : Result Counts Refusal) (a b : List Fault) → Judgement m bs before r a → Judgement m bs before q b → (r ≡ q) × (a ≡ b)

@@ -52,7 +52,7 @@ accepted_more s rs x =
 pub verdict_is : (s : Setting) (n : ℕ) (x : Record) (now next : Report) → next ≡ told (begun now) (faults_of s n x) → next.verdict ≡ verdict_in s n x
 verdict_is s n x now next e = ap (λ r. r.verdict) e ∙ verdict-told (faults_of s n x) (begun now)
 
-one_more : (b : Bool) (n m k : ℕ) → n ≡ m + (if b then 1 else 0) → m ≤ k → n ≤ k + 1
+pub one_more : (b : Bool) (n m k : ℕ) → n ≡ m + (if b then 1 else 0) → m ≤ k → n ≤ k + 1
 one_more true n m k e l = omega (arith, e, l)
 one_more false n m k e l = omega (arith, e, l)
 

@@ -3,6 +3,8 @@ ghost use Rattle.judging.specs.Judging.{TellsOf};
 ghost use Rattle.verdicts.specs.Sights.{setting};
 
 use faults::report::{Fault, Report};
+use faults::rules::Rule;
+use grammar::states::FieldId;
 use lists::code_lists::CodeLists;
 use records::begin::records;
 use uploads::upload::Upload;
@@ -15,6 +17,19 @@ pub struct Counts {
     pub accepted: usize,
     pub faults: usize,
 }
+
+// What a row holds before a fault takes it.
+pub const BLANK: Fault = Fault {
+    record: 0,
+    segment: 0,
+    field: FieldId {
+        letter: b'A',
+        tens: b'0',
+        ones: b'0',
+    },
+    rule: Rule::Misplaced,
+    place: 0,
+};
 
 // Judges the records of an upload, one after the other. The rows take the first faults, and rows beyond stay. Nothing is
 // allocated.

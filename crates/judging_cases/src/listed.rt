@@ -1,8 +1,6 @@
 // Rule 26 by lists of rows: which codes stand in them, on the day of the visit, and which beds need not.
-use faults::report::Fault;
-use faults::rules::Rule;
-use grammar::states::FieldId;
 use judging::input::judge;
+use judging::upload::BLANK;
 use lists::ordered_lists::OrderedLists;
 use lists::row::Row;
 use std::test::Fail;
@@ -53,18 +51,6 @@ const CASES: [Case; 13] = [
     (b"<M36>ER</M36>", true),
     (b"<M41>0FT44ZZ</M41>", true),
 ];
-
-const BLANK: Fault = Fault {
-    record: 0,
-    segment: 0,
-    field: FieldId {
-        letter: b'A',
-        tens: b'0',
-        ones: b'0',
-    },
-    rule: Rule::Misplaced,
-    place: 0,
-};
 
 fn row(listed: Listed) -> Row<'static> {
     let (list, code, first, last) = listed;

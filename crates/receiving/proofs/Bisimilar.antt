@@ -31,12 +31,14 @@ use Rattle.settling.specs.Against.{is_kept}
 use Rattle.settling.specs.Settled.{done}
 use Rattle.settling.specs.Standing.{Holds}
 use Rattle.settling.specs.Verdicts.{IsLowest}
+use Rattle.judging.proofs.Judging.{ok_is, err_is}
 use Rattle.receiving.specs.Contents.{records_in, filing_of}
 use Rattle.receiving.specs.Judging.{IsBroken, filed_in, Judges, Run, ended, judged}
 use Rattle.receiving.specs.Events.{Call, Reply, Event, History, followed, accepted_one, accepted, own}
 use Rattle.receiving.specs.Receiving.{told_of, setting_on, refused_reply, taken_reply, Received, goes_back, taken}
 use Rattle.receiving.specs.Sights.{SameSight, Sights}
 use Rattle.receiving.specs.Uses.{Reaches, made, received, SameCalls, Alike, begin_both, other_here, other_there, both, SameFor}
+use Rattle.receiving.proofs.Taking.{sound}
 use Rattle.receiving.proofs.Own.{Own, filing_sender, differ, run_apart}
 use Rattle.receiving.proofs.Keeping.{kept_judged, kept}
 use Rattle.receiving.proofs.Verdicts.{faulty, unfiled, against}
@@ -103,24 +105,7 @@ module _ (s : Setting) (k : List ℕ) where
       (after gs hs c d (holds g) (holds h) mine n x v w same p q) sights.1 (λ i. room (inr i)) (λ i. room′ (inr i)) in
       (λ i. same i ∷ rest.0 i, rest.1)
 
-abbrev ok_or : {A B : Type 0} → A → Result A B → A
-ok_or a (Ok x) = x
-ok_or a (Err y) = a
-
-abbrev err_or : {A B : Type 0} → B → Result A B → B
-err_or b (Ok x) = b
-err_or b (Err y) = y
-
-pub same_Ok : {A B : Type 0} (a b : A) → ◌≡◌ {A = Result A B} (Ok a) (Ok b) → a ≡ b
-same_Ok a b e = ap (ok_or a) e
-
-pub same_Err : {A B : Type 0} (a b : B) → ◌≡◌ {A = Result A B} (Err a) (Err b) → a ≡ b
-same_Err a b e = ap (err_or a) e
-
 -- a call
-day_of : (c : Told) (t : Taken) → Answer c (Ok t) → right_day c ≡ Some t.day
-day_of c _ (answers.taken s w f n) = s.day
-
 module _ (call : Call) (y z : Reply) (gs hs : List Filing) (c d : Contents) (g : Kept gs c) (h : Kept hs d) (mine : Own call.sender c d)
     (sights : (t : Date) → right_day (told_of call) ≡ Some t → Sights (setting_on t call) call.sender 1 (records_in call.upload) y.verdicts z.verdicts gs hs)
     (room : ¬ In (Some NoRoom) y.verdicts) (room′ : ¬ In (Some NoRoom) z.verdicts) where
@@ -128,13 +113,13 @@ module _ (call : Call) (y z : Reply) (gs hs : List Filing) (c d : Contents) (g :
   of r = record { call = call; reply = r }
 
   received_alike : {c′ d′ : Contents} → Received c (of y) c′ → Received d (of z) d′ → (y ≡ z) × Own call.sender c′ d′
-  received_alike (goes_back {r = r} a e) (goes_back {r = o} b f) = (e ∙ ap refused_reply (same_Err r o (a.only (Err o) b.law)) ∙ sym f, mine)
+  received_alike (goes_back {r = r} a e) (goes_back {r = o} b f) = (e ∙ ap refused_reply (err_is r o (a.only (Err o) b.law)) ∙ sym f, mine)
   received_alike (goes_back {r = r} a e) (taken {t = t} b q f) = absurd (false≢true (ap is_ok (a.only (Ok t) b.law)))
   received_alike (taken {t = t} a p e) (goes_back {r = o} b f) = absurd (false≢true (ap is_ok (b.only (Ok t) a.law)))
   received_alike {d′ = d′} (taken {t = t} {vs = vs} a p e) (taken {t = u} {vs = ws} b q f) =
-      let same : t ≡ u = same_Ok t u (a.only (Ok u) b.law) in
+      let same : t ≡ u = ok_is t u (a.only (Ok u) b.law) in
       let sees = subst (λ l. Sights (setting_on t.day call) call.sender 1 (records_in call.upload) l ws gs hs) (ap (λ r. r.verdicts) e)
-      (subst (λ l. Sights (setting_on t.day call) call.sender 1 (records_in call.upload) y.verdicts l gs hs) (ap (λ r. r.verdicts) f) (sights t.day (day_of (told_of call) t a.law))) in
+      (subst (λ l. Sights (setting_on t.day call) call.sender 1 (records_in call.upload) y.verdicts l gs hs) (ap (λ r. r.verdicts) f) (sights t.day (sound (told_of call) t a.law).day)) in
       let all = run_alike (setting_on t.day call) call.sender p (subst (λ o. Run (setting_on o.day call) call.sender 1 (records_in call.upload) d ws d′) (sym same) q) gs hs g h mine sees
       (subst (λ r. ¬ In (Some NoRoom) r.verdicts) e room) (subst (λ r. ¬ In (Some NoRoom) r.verdicts) f room′) in
       (e ∙ (λ i. taken_reply (setting_on (same i).day call) call (all.0 i)) ∙ sym f, all.1)

@@ -24,7 +24,7 @@ use Rattle.receiving.specs.Judging.{faults_along}
 use Rattle.receiving.specs.Events.{Call}
 use Rattle.receiving.specs.Receiving.{Received, taken, AllJudged, reply_in}
 use Rattle.receiving.proofs.Few.{few_records}
-use Rattle.receiving.proofs.Filed.{chosen, sound}
+use Rattle.receiving.proofs.Taking.{enough, sound, limits, same_upload}
 use Rattle.receiving.proofs.Loops.{as_many}
 use Rattle.receiving.proofs.Reading.{in_each}
 
@@ -41,16 +41,6 @@ module _ {A : Type 0} where
   again [] (x ∷ xs) = refl
   again (y ∷ rows) [] = refl
   again (y ∷ rows) (x ∷ xs) = ap (λ l. x ∷ l) (again rows xs)
-
-enough : (c : Told) (d : Date) → right_day c ≡ Some d → 4096 ≤ c.rows
-enough c d h = let t = (and_parts (is_sender c.sender) (nat_le least_rows c.rows) (chosen _ (date_in c.day) d h)).1 in grind (arith, nat_tests)
-
--- what is taken is what was handed over
-pub same_upload : (c : Told) (t : Taken) → Answer c (Ok t) → (t.upload ≡ c.upload) × (t.sender ≡ c.sender)
-same_upload c _ (answers.taken s w f n) = (refl, refl)
-
-pub limits : (c : Told) (t : Taken) → Answer c (Ok t) → Within c.upload
-limits c _ (answers.taken s w f n) = w
 
 few : (c : Told) (t : Taken) → Answer c (Ok t) → length (records_in c.upload) ≤ c.rows
 few c t a =

@@ -15,7 +15,8 @@ use Rattle.receiving.specs.Judging.{IsBroken, filed_in, Judges, Run, ended, judg
 use Rattle.receiving.specs.Events.{Reply, Event}
 use Rattle.receiving.specs.Receiving.{setting_on, refused_reply, taken_reply, Received, goes_back, taken, Exact}
 use Rattle.receiving.specs.Uses.{received, UseLaws, LookUpLaws}
-use Rattle.receiving.proofs.Bisimilar.{same_Ok, same_Err, same_for}
+use Rattle.judging.proofs.Judging.{ok_is, err_is}
+use Rattle.receiving.proofs.Bisimilar.{same_for}
 use Rattle.receiving.proofs.Keeping.{kept}
 
 module _ (s : Setting) (k : List ℕ) where
@@ -33,11 +34,11 @@ module _ (s : Setting) (k : List ℕ) where
 
 module _ (c : Contents) (e : Event) where
   only : {d m : Contents} (r : Reply) → Received c e d → Received c (record e { reply = r }) m → (r ≡ e.reply) × (m ≡ d)
-  only r (goes_back {r = o} a p) (goes_back {r = u} b q) = (q ∙ ap refused_reply (sym (same_Err o u (a.only (Err u) b.law))) ∙ sym p, refl)
+  only r (goes_back {r = o} a p) (goes_back {r = u} b q) = (q ∙ ap refused_reply (sym (err_is o u (a.only (Err u) b.law))) ∙ sym p, refl)
   only r (goes_back {r = o} a p) (taken {t = t} b run q) = absurd (false≢true (ap is_ok (a.only (Ok t) b.law)))
   only r (taken {t = t} a run p) (goes_back b q) = absurd (false≢true (ap is_ok (b.only (Ok t) a.law)))
   only {m = m} r (taken {t = t} {vs = vs} a run p) (taken {t = u} {vs = ws} b run′ q) =
-      let same : t ≡ u = same_Ok t u (a.only (Ok u) b.law) in
+      let same : t ≡ u = ok_is t u (a.only (Ok u) b.law) in
       let all = one_run (setting_on t.day e.call) e.call.sender run (subst (λ o. Run (setting_on o.day e.call) e.call.sender 1 (records_in e.call.upload) c ws m) (sym same) run′) in
       (q ∙ (λ i. taken_reply (setting_on (sym same i).day e.call) e.call (sym all.0 i)) ∙ sym p, sym all.1)
 

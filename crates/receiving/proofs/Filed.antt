@@ -44,6 +44,7 @@ use Rattle.register.specs.declared.key.Key.{Key}
 use Rattle.uploads.specs.Calls.{Told, right_day, is_sender, least_rows}
 use Rattle.uploads.specs.Answers.{Taken, Sound, Answer, Answered}
 use Rattle.uploads.specs.Answers as answers
+use Rattle.verdicts.proofs.Members.{has_value, value_has}
 use Rattle.verdicts.specs.Sights.{Setting, view}
 use Rattle.verdicts.specs.Faults.{fault}
 use Rattle.verdicts.specs.Broken.{header, visit, IsWritten, BelongsTo, WrittenIn, BreaksAt, absent, written, Breaks}
@@ -57,7 +58,8 @@ use Rattle.receiving.specs.Receiving.{told_of, setting_on, counts_of, event_of, 
 use Rattle.receiving.specs.declared.receive.Delivery.{Delivery}
 use Rattle.lists.specs.Lists.{Meaning}
 use Rattle.reader.specs.declared.faults.Refusal.{Refusal}
-use Rattle.receiving.proofs.Bisimilar.{same_Ok}
+use Rattle.judging.proofs.Judging.{ok_is}
+use Rattle.receiving.proofs.Taking.{sender, sound, limits}
 use Rattle.receiving.proofs.Reading.{in_each}
 
 -- what is found first: nothing before it passes the test
@@ -86,16 +88,6 @@ module _ {X : Type 0} (p : X → Bool) where
   found_first (y ∷ xs) x e = first_head y xs x (p y) refl e (found_first xs x)
 
 -- what is written, and which field an ID names
-
-value_has : (w : Written) → IsWritten w → is_written w ≡ true
-value_has w h = by w.value h
-  where
-    by : (xs : List ℕ) → xs ≢ [] → not (length xs == 0) ≡ true
-    by [] k = absurd (k refl)
-    by (x ∷ xs) k = grind (arith, nat_tests)
-
-has_value : (w : Written) → is_written w ≡ true → IsWritten w
-has_value w h e = true≢false (sym h ∙ ap (λ v. not (length v == 0)) e)
 
 named_by : (g : Segment) (i : FieldId) (f : Field) (o : Option Field) → field_at g i ≡ o → option_map_or (λ h. row h == row f) o false ≡ true → i ≡ id_of f
 named_by g i f None e h = absurd (false≢true h)
@@ -236,33 +228,18 @@ counted s k h t (judged {n = n} {x = x} {xs = xs} {c = c} {m = m} {v = v} {vs = 
     let rest = counted s k h (λ y i. t y (inr i)) r in
     omega (arith, one, rest, sum_by-cons (λ o. if is_none o then 1 else 0) v vs, length-append (accepted_one k x v) (accepted_among k xs vs))
 
--- the sender of a call that is taken
-
-pub chosen : (b : Bool) (o : Option Date) (d : Date) → (if b then o else None) ≡ Some d → b ≡ true
-chosen true o d h = refl
-chosen false o d h = absurd (none-some d h)
-
-pub sender : (c : Told) (d : Date) → right_day c ≡ Some d → are_signs 10 c.sender ≡ true
-sender c d h = (and_parts (is_sender c.sender) (nat_le least_rows c.rows) (chosen _ (date_in c.day) d h)).0
-
-pub sound : (c : Told) (t : Taken) → Answer c (Ok t) → Sound c t.day
-sound c _ (answers.taken s w f n) = s
-
-pub lawful : (c : Told) (t : Taken) → Answer c (Ok t) → Lawful c.upload
-lawful c _ (answers.taken s w f n) = w.lawful
-
 -- of the records of a call that is taken, as many have no verdict as file something
 pub counted_call : (call : Call) (t : Taken) {c : Contents} {vs : List (Option Rule)} {d : Contents} → Answered (told_of call) (Ok t)
     → Run (setting_on t.day call) call.sender 1 (records_in call.upload) c vs d → count_by is_none vs ≡ length (accepted_among call.sender (records_in call.upload) vs)
 counted_call call t a run =
     counted (setting_on t.day call) call.sender (sender (told_of call) t.day (sound (told_of call) t a.law).day)
-    (titled call.upload (test_from_lawful call.upload (lawful (told_of call) t a.law))) run
+    (titled call.upload (test_from_lawful call.upload (limits (told_of call) t a.law).lawful)) run
 
 -- and the answer says how many
 pub counts_accepted : {c d : Contents} {e : Event} (n : Counts) → Received c e d → e.reply.answer ≡ Ok n → n.accepted ≡ length (accepted_in e)
 counts_accepted {e = e} n (goes_back {r = o} a p) h = absurd (false≢true (ap is_ok (sym (ap (λ y. y.answer) p) ∙ h)))
 counts_accepted {e = e} n (taken {t = t} {vs = vs} a run p) h =
-    let same : counts_of vs (faults_along (setting_on t.day e.call) 1 (records_in e.call.upload) vs) ≡ n = same_Ok _ n (sym (ap (λ y. y.answer) p) ∙ h) in
+    let same : counts_of vs (faults_along (setting_on t.day e.call) 1 (records_in e.call.upload) vs) ≡ n = ok_is _ n (sym (ap (λ y. y.answer) p) ∙ h) in
     sym (ap (λ m. m.accepted) same) ∙ counted_call e.call t a run ∙ ap (λ y. length (accepted_among e.call.sender (records_in e.call.upload) y.verdicts)) (sym p)
 
 pub filed_in_all : (m : Meaning) (c d : Contents) (by : Delivery) (vs : List (Option Rule)) (fs : List Fault) (r : Result Counts Refusal) → Received c (event_of m by vs fs r) d

@@ -1,3 +1,4 @@
+pub mod Taking
 pub mod Own
 pub mod Keeping
 pub mod Verdicts

@@ -21,6 +21,7 @@ use Rattle.verdicts.specs.Sights.{Setting}
 use Rattle.verdicts.proofs.Few.{faults_few}
 use Rattle.verdicts.specs.Faults.{faults_of, first_told}
 use Rattle.verdicts.specs.Uploads.{faults_in}
+use Rattle.judging.proofs.Uploads.{one_more}
 use Rattle.receiving.specs.Contents.{records_in}
 use Rattle.receiving.specs.Receiving.{AllJudged}
 use Rattle.receiving.proofs.Reading.{in_each}
@@ -53,10 +54,6 @@ pub record SoFar (s : Setting) (k : List ℕ) (xs : List Record) (c : Contents) 
   pub counted : judged ≡ length xs
   pub passed : accepted ≡ count_by is_none given
   pub few : accepted ≤ judged
-
-one_more : (b : Bool) (n m k : ℕ) → n ≡ m + (if b then 1 else 0) → m ≤ k → n ≤ k + 1
-one_more true n m k e l = omega (arith, e, l)
-one_more false n m k e l = omega (arith, e, l)
 
 pub so_far_more : (s : Setting) (k : List ℕ) (xs : List Record) (x : Record) (c : Contents) (rows : List (Option Rule)) (start : Report) (d m : Contents) (verdicts : List (Option Rule)) (report next : Report) (n accepted after : ℕ) (v : Option Rule)
     → Judges s k (n + 1) x d v m → next ≡ told (begun report) (faults_told s (n + 1) x v) → after ≡ accepted + (if is_none v then 1 else 0)

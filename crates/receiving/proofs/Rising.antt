@@ -20,7 +20,7 @@ use Rattle.receiving.specs.Contents.{records_in}
 use Rattle.receiving.specs.Judging.{standing_faults, faults_told, faults_along}
 use Rattle.receiving.specs.Events.{Event}
 use Rattle.receiving.specs.Receiving.{setting_on, told_of, Received, goes_back, taken}
-use Rattle.receiving.proofs.Calls.{limits}
+use Rattle.receiving.proofs.Taking.{limits}
 use Rattle.receiving.proofs.Reading.{in_each}
 
 module _ {A : Type 0} (R : A → A → Type 0) where

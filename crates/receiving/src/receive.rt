@@ -60,9 +60,10 @@ fn receive_records<R: Register, L: CodeLists>(
     let mut judged = 0;
     let mut accepted = 0;
     for record in records(upload.file) {
-        let verdict = judge_against(register, &terms, judged + 1, &record, &mut report);
-        write(verdicts, judged, verdict);
+        let at = judged;
         judged += 1;
+        let verdict = judge_against(register, &terms, judged, &record, &mut report);
+        write(verdicts, at, verdict);
         if verdict.is_none() {
             accepted += 1;
         }

@@ -4,10 +4,8 @@ use crate::input::{KEPT_OF_LINE, KEPT_OF_UPLOAD, command, read_rows, read_upload
 use commands::command::Command;
 use commands::look_up_line::LookUpLine;
 use commands::verdicts_line::VerdictsLine;
-use faults::report::Fault;
-use faults::rules::Rule;
-use grammar::states::FieldId;
 use judging::lines::{Line, Row};
+use judging::upload::BLANK;
 use lists::ordered_lists::NotMade;
 use queue::queue::Queue;
 use receiving::receive::Delivery;
@@ -17,19 +15,6 @@ use std::io::{BufRead, Write};
 
 // So many verdict rows are lent at most, and so many report rows.
 const MOST_ROWS: usize = 65_536;
-
-// What a report row holds before a fault takes it.
-const BLANK: Fault = Fault {
-    record: 0,
-    segment: 0,
-    field: FieldId {
-        letter: b'A',
-        tens: b'0',
-        ones: b'0',
-    },
-    rule: Rule::Misplaced,
-    place: 0,
-};
 
 // The queue, and room for the line of a row and for an upload. It is asked for only once, so that want of memory never keeps what
 // follows a command from being read.

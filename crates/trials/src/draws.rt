@@ -1,7 +1,7 @@
 // Keys by number, and entries by the dice.
 ghost use Rattle.std.specs.Prelude.{◌≡◌, ◌/◌, ◌%◌};
 ghost use Rattle.std.specs.Str.Parse.{digits_value};
-ghost use Rattle.trials.specs.Keys.{sender_of};
+ghost use Rattle.trials.specs.Keys.{sender_of, scattered};
 
 use crate::dice::Dice;
 use register::entry::Entry;
@@ -22,6 +22,17 @@ pub fn key_of(number: u64) -> Key
         sender,
         identifier: digits(number / SENDERS),
     }
+}
+
+// Odd, so that no two numbers below 2 to the 64 are scattered onto one.
+const SCATTER: u64 = 11_400_714_819_323_198_485;
+
+// The key with this number, which lies anywhere among the others.
+pub fn key_at(number: u64) -> Key
+    ensures sender { result.sender ≡ sender_of (scattered number % 3) }
+    ensures identifier { digits_value 10 result.identifier ≡ scattered number / 3 }
+{
+    key_of(number.wrapping_mul(SCATTER))
 }
 
 // The number in twenty digits, as many as the greatest has.

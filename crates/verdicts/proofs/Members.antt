@@ -73,14 +73,14 @@ none_by g i (Some f) e h = let w = only g i f e in absurd (h f (sym w.0) (sym w.
 
 -- what is written
 
-has_value : (w : Written) → is_written w ≡ true → IsWritten w
+pub has_value : (w : Written) → is_written w ≡ true → IsWritten w
 has_value w h = by w.value h
   where
     by : (xs : List ℕ) → not (length xs == 0) ≡ true → xs ≢ []
     by [] e q = cc
     by (x ∷ xs) e q = cc
 
-value_has : (w : Written) → IsWritten w → is_written w ≡ true
+pub value_has : (w : Written) → IsWritten w → is_written w ≡ true
 value_has w h = by w.value h
   where
     by : (xs : List ℕ) → xs ≢ [] → not (length xs == 0) ≡ true

@@ -2,7 +2,8 @@ use Rattle.std.proofs.Common.{refl, subst}
 use Rattle.std.proofs.lemmas.Result.{err_from_is_err_and}
 use Rattle.receiving.specs.Contents.{Read}
 use Rattle.receiving.specs.Receiving.{goes_back}
-use Rattle.receiving.proofs.Calls.{received, same_upload}
+use Rattle.receiving.proofs.Calls.{received}
+use Rattle.receiving.proofs.Taking.{same_upload}
 use Rattle.receiving.proofs.receive.answer.Goals as goal
 
 pub returns-in_err-upload-clause-received : goal.returns-in_err-upload-clause-received

@@ -16,11 +16,6 @@ overflow_add-judged g c =
     let few = one_more_fits c.args.upload c.loop-record.record-iterator c.loop-record.yielded c.records-record-items.ensures.records c.records-record-items.ensures.upload c.into_iter-record-iterator.ensures.into_iter_gives c.loop-record.yielded_by c.in-Some.record _ c.in-Some.ensures.steps in
     omega (arith, few, c.loop-record.invariant.counted)
 
-pub overflow_add-judged-in-loop-record : goal.overflow_add-judged-in-loop-record
-overflow_add-judged-in-loop-record g c =
-    let few = one_more_fits c.args.upload c.loop-record.record-iterator c.loop-record.yielded c.records-record-items.ensures.records c.records-record-items.ensures.upload c.into_iter-record-iterator.ensures.into_iter_gives c.loop-record.yielded_by c.in-Some.record _ c.in-Some.ensures.steps in
-    omega (arith, few, c.loop-record.invariant.counted)
-
 pub overflow_add-accepted : goal.overflow_add-accepted
 overflow_add-accepted g c =
     let few = one_more_fits c.args.upload c.loop-record.record-iterator c.loop-record.yielded c.records-record-items.ensures.records c.records-record-items.ensures.upload c.into_iter-record-iterator.ensures.into_iter_gives c.loop-record.yielded_by c.in-Some.record _ c.in-Some.ensures.steps in
