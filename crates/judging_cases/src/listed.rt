@@ -1,4 +1,5 @@
 // Rule 26 by lists of rows: which codes stand in them, on the day of the visit, and which beds need not.
+use grammar::states::FieldId;
 use judging::input::judge;
 use judging::upload::BLANK;
 use lists::ordered_lists::OrderedLists;
