@@ -1,4 +1,5 @@
-use Rattle.std.proofs.Common.{◌∙◌, refl, ap, drop}
+use Rattle.std.proofs.Common.{◌∙◌, refl, ap, drop, arith}
+use Rattle.std.proofs.lemmas.List.{take_rest}
 use Rattle.judging.proofs.Judging.{behind_sender, behind_day, cut, stripped, not_stripped}
 use Rattle.judging.proofs.input.call_in.Goals as goal
 
@@ -25,4 +26,5 @@ returns c =
     let behind_sender = stripped 0x20 c.in_ok-sender.rest.now c.in_ok-strip_prefix.field-0.now space.0 space.1 in
     let day_on = cut 7 c.in_ok-strip_prefix.field-0.now c.in_ok-day.day.now c.in_ok-day.rest.now day.1 day.2 in
     let behind_day = stripped 0x0a c.in_ok-day.rest.now c.in_ok-upload.upload.now feed.0 feed.1 in
-    record { input = record { is = cc; ten = sender.3; seven = day.3 }; rows = refl }
+    -- by value, also where a part is a slice to the end of another: `take_rest` says what such a slice holds
+    record { input = record { is = simp (whole, behind_sender, day_on, behind_day, take_rest); ten = omega (arith, sender.3); seven = omega (arith, day.3) }; rows = refl }
