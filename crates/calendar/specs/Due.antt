@@ -1,4 +1,4 @@
--- The due day of a visit, until which it may be corrected: the last day of the month after the month of the visit. Assumes nothing.
+-- The due day of a visit: until it, the last day of the next month, the visit may be corrected. Assumes nothing.
 --     month_after y m   the month after the month m of the year y
 --     last_of (y, m)    the last day of a month
 --     due_of v          the due day of a visit on the date v. Kept shut: whoever builds on it uses the laws below

@@ -7,7 +7,7 @@ use crate::day::Day;
 use crate::month::Month;
 
 impl Day {
-    // The due day of a visit on this day: the last day of the month after.
+    // The due day of a visit on this day: the last day of the next month.
     pub fn due(self) -> Day
         ensures value { date_of result ≡ due_of (date_of self) }
         ensures law { DueLaw (date_of self) (date_of result) }
@@ -17,7 +17,7 @@ impl Day {
         Month::from(self).next().last_day()
     }
 
-    // Whether this day is past the due day of a visit.
+    // Whether on this day it is too late to correct a visit: its due day lies before.
     pub fn is_past_due(self, visit: Day) -> bool
         ensures { result ≡ is_past_due (date_of self) (date_of visit) }
     {

@@ -50,14 +50,10 @@ unfolding padded_integral char_count
 padded_hex w n some fits small =
     rw (append-nil (digits 16 true n)) (filled w 64 n _ [] (digits 16 true n) fits some small (spelled n) (omega arith))
 
--- what is written of a number m where m is n, and of n
-pub shown_as : (w n : ℕ) {m : ℕ} {o : Option (List ℕ)} → 0 < w → w ≤ 64 → n < 16 ^ w → o ≡ Some (digits 16 true m) → m ≡ n
+-- the code writes a number m, which is n
+pub shown : (w n : ℕ) {m : ℕ} {o : Option (List ℕ)} → 0 < w → w ≤ 64 → n < 16 ^ w → o ≡ Some (digits 16 true m) → m ≡ n
     → option_map (padded_integral (format_spec 32 0 4 w (2 ^ 64 - 1)) false []) o ≡ Some (last_digits w n [])
-shown_as w n some fits small e same = rw (e, same, padded_hex w n some fits small) refl
-
-pub shown : (w n : ℕ) {o : Option (List ℕ)} → 0 < w → w ≤ 64 → n < 16 ^ w → o ≡ Some (digits 16 true n)
-    → option_map (padded_integral (format_spec 32 0 4 w (2 ^ 64 - 1)) false []) o ≡ Some (last_digits w n [])
-shown w n some fits small e = shown_as w n some fits small e refl
+shown w n some fits small e same = rw (e, same, padded_hex w n some fits small) refl
 
 byte : (n m : ℕ) (acc : List ℕ) → m ≡ n % 0x100 → hex_byte m ++ acc ≡ last_digits 2 n acc
 byte n m acc e =

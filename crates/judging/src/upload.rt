@@ -31,8 +31,8 @@ pub const BLANK: Fault = Fault {
     place: 0,
 };
 
-// Judges the records of an upload, one after the other. The rows take the first faults, and rows beyond stay. Nothing is
-// allocated.
+// Judges the records of an upload, one after the other. The first faults go into the rows, and rows that none of them needs keep
+// what they had. Nothing is allocated.
 pub fn judge_upload<L: CodeLists>(upload: Upload, lists: &L, rows: &mut [Fault]) -> Counts
     ensures { TellsOf (setting L.meaning upload.entry.day lists.now) upload.entry.file.bytes.now rows.old result rows.new }
 {

@@ -1,5 +1,5 @@
 -- Code lists. Assumes nothing.
---     Meaning             which codes stand in which list on which day: a fixed yes or no for each list number, bytes of a code, and date
+--     Meaning             which codes stand in which list on which day: yes or no, by the number of the list, the bytes of the code and the date
 --     may_be_listed n c   whether c may be a code of list n: there are lists 1 to 7, and codes have 1 to 12 bytes
 use Rattle.std.specs.Prelude.{ℕ, Bool, ◌&&◌, List, length}
 use Rattle.calendar.specs.Calendar.{Date}

@@ -1,6 +1,6 @@
 -- Making lists of rows. Assumes nothing.
 --     is_code n bs c   c is the code bs of the list n
---     meaning_of l     what the lists l say: the code stands in the list, and the day is in its span
+--     meaning_of l     what the lists l say: the code stands in the list, and its span has the day
 --     Makes rs r       r is what comes of the rows: if one is bad, the refusal of the first such; else lists that say what the rows
 --                      say, or that there is not enough memory
 use Rattle.std.specs.Prelude.{◌≡◌, ℕ, Bool, ◌&&◌, ◌==◌, List, Result, Ok, Err}

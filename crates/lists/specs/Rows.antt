@@ -7,7 +7,7 @@
 --     is_bad rs i        the row at i is not lawful by itself, or not above the row before it
 --     NoneIsBad rs       no row is bad
 --     IsFirstBad rs i    the row at i is bad, and none before it
---     row_says r         what the row r says: it has the list and the code, and the day is in its span
+--     row_says r         what the row r says: it has the list and the code, and its span has the day
 --     says rs            what the rows say: one of them says so
 use Rattle.std.specs.Prelude.{◌≡◌, ℕ, ◌-◌, ◌<◌, Bool, false, true, not, ◌&&◌, ◌||◌, ◌==◌, List, length, Option, is_some, nat_lt, slice_get}
 use Rattle.std.specs.declared.cmp.Ordering.{Ordering}

@@ -10,7 +10,8 @@ use crate::code_lists::CodeLists;
 use calendar::day::Day;
 use grammar::bytes::are_signs;
 
-// Yes to A to Z and 0 to 9 throughout in lists 1 to 6, and in list 7 to the visit numbers.
+// Code lists that go by the shape of a code, on any day: in lists 1 to 6 each code stands that is of signs alone, in list 7 each
+// visit number.
 #[derive(Clone, Copy, PartialEq, Eq, Debug)]
 pub struct ShapeLists;
 

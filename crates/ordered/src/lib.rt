@@ -1,4 +1,4 @@
-// A table of entries kept in the order of their keys, for any totally ordered key and any value.
+// A table of entries that is kept in the order of their keys: keys of any type that has a total order, values of any type.
 #![tactic(auto)]
 
 mod search;

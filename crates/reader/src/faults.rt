@@ -45,7 +45,7 @@ pub enum TagFault {
 pub enum Refusal {
     // 1: no bytes, or too many
     Length,
-    // 2: the declaration is wrong or cut short
+    // 2: it does not begin with the whole declaration
     Declaration { place: usize },
     // 3: another byte than any lawful upload could have there
     Unlawful { cause: Cause, place: usize },

@@ -3,7 +3,7 @@
 --     SamePrescription gs hs o     of the prescription o the same is seen: whether it stands, its mark and its times
 --     SameRefills gs hs k e        a visit with the entry e under the key k: of each refill that it takes, whether it is taken under another key; and the same of its origin
 --     SameClaims gs hs k d         so it is, if the deed is a visit that the register keeps
---     SameSight gs hs q            the same is seen at the filing q, as far as one of the two rules applies to it: whether a dispensing of what stands under its key stands under another; and the same claims
+--     SameSight gs hs q            the same is seen at the filing q, as far as one of the two rules may be broken by it: whether what stands under its key is dispensed under another; and the same claims
 --     Sights s k n xs vs ws gs hs  so it is at each of the records xs of the sender k, numbered from n, that breaks no rule of the first three tiers; vs and ws are their verdicts
 use Rattle.std.specs.Prelude.{◌≡◌, ◌↔◌, ℕ, ◌+◌, IsTrue, ◌&&◌, List, [], ◌∷◌, ◌++◌, Option, Some}
 use Rattle.records.specs.Records.{Record}

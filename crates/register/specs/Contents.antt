@@ -1,4 +1,4 @@
--- What a register holds: a finite table from keys to entries, and a greatest count. Assumes nothing.
+-- What a register holds: entries, one at most under each key, and how many it may hold. Assumes nothing.
 --     Contents                 the entry at each key, how many keys have one, and how many may
 --     IsFinite c               the count is the number of the keys that have an entry, and no greater than the greatest count
 --     holding es n             the entries es, of which no two have the same key, with room for n
@@ -11,7 +11,7 @@
 --     without c k              c without the entry under k
 --     Elsewhere c j P          an entry of which P holds, with its key, stands under a key other than j
 --     DispensedElsewhere c k   an entry with the origin k stands under a key other than k
---     TakenElsewhere c k n j   the refill n of k is taken under a key other than j
+--     TakenElsewhere c k n j   some key but j has an entry that takes the refill n of k
 use Rattle.std.specs.Prelude.{◌≡◌, ◌≢◌, ℕ, ◌+◌, ◌-◌, ◌≤◌, Bool, if◌then◌else◌, ◌||◌, List, length, min, Option, Some, None, is_some, IsSomeAnd, nat_lt, Result, Ok, Err}
 use Rattle.std.specs.List.{IsDistinct, list_any}
 use Rattle.std.specs.Map.{lookup, update}

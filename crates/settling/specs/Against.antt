@@ -1,7 +1,7 @@
 -- Rules 30 to 35: what stands against a filing. Assumes nothing. u is the entry under its key, if there is one.
 --     is_kept k d               a deed that the register keeps: a visit under a placeholder is none
 --     is_unmatched d u          rule 30: a cancellation or a deletion, and no entry of its person stands under its key
---     is_overdue today e        the receipt day is past the due day of the entry's visit
+--     is_overdue today e        the due day of the entry's visit lies before the receipt day
 --     is_late today d u         rule 31: so it is with the visit itself, or with the entry under its key
 --     refill_numbers            1 to 9
 --     is_unfit e o              a dispensing e of a prescription with the entry o is wrong: that is cancelled, or its times are below a refill
